@@ -1,0 +1,146 @@
+ghost use Rattle.std.specs.Prelude.{◌≡◌, ◌≤◌, IfOk, IfSome, Some, length, vec_len};
+ghost use Rattle.mit_rows.specs.Order.{row_cmp, value_cmp};
+ghost use Rattle.mit_rows.specs.Stored.{leader};
+
+use crate::value::Value;
+use std::alloc::{AllocError, Global};
+use std::cmp::Ordering;
+use std::marker::Model;
+use std::slice;
+
+/// The most columns of a row.
+pub const MAX_COLUMNS: usize = 16;
+
+/// A row of at most `MAX_COLUMNS` values, which contracts see as their list.
+#[derive(Debug, Drop)]
+pub struct Row {
+    stored: Stored,
+}
+
+// Few reads tell two rows apart: those of their first integers, which stand in the rows themselves.
+#[derive(Debug, Drop)]
+enum Stored {
+    One(Value),
+    // values that this integer leads
+    Led(i64, Vec<Value>),
+    Many(Vec<Value>),
+}
+
+impl Model for Row {
+    ghost use Rattle.std.specs.Prelude.{List, ◌≤◌, length};
+    ghost use Rattle.mit_rows.specs.declared.value.Value.{Value as OneValue};
+
+    ghost Value = { List OneValue };
+
+    ghost use Rattle.mit_rows.specs.Stored.{IsLed, listed};
+
+    ghost view = { λ r. listed r.stored };
+
+    ghost invariant = { λ r. (length (listed r.stored) ≤ 16) × IsLed r.stored };
+}
+
+impl Row {
+    /// A row of these values.
+    pub fn from_values(mut values: Vec<Value>) -> Row
+        requires { vec_len values ≤ MAX_COLUMNS }
+        ensures { result ≡ values.items }
+    {
+        if values.len() == 1
+            && let Some(only) = values.pop()
+        {
+            return Row {
+                stored: Stored::One(only),
+            };
+        }
+        let stored = match values.first() {
+            Some(Value::Int(number)) => Stored::Led(*number, values),
+            _ => Stored::Many(values),
+        };
+        Row { stored }
+    }
+
+    /// Its values, column by column.
+    pub fn values(&self) -> &[Value]
+        ensures value { result.now ≡ self.now }
+        ensures few { length self.now ≤ MAX_COLUMNS }
+    {
+        match &self.stored {
+            Stored::One(value) => slice::from_ref(value),
+            Stored::Led(_, values) | Stored::Many(values) => values,
+        }
+    }
+
+    // Its first integer, where that stands in the row itself.
+    #[inline]
+    fn number(&self) -> Option<i64>
+        ensures { IfSome result (λ number. leader self.now ≡ Some number) }
+    {
+        match &self.stored {
+            Stored::One(Value::Int(number)) | Stored::Led(number, _) => Some(*number),
+            _ => None,
+        }
+    }
+
+    /// An equal row.
+    pub fn copy(&self, alloc: Global) -> Result<Row, AllocError>
+        ensures { IfOk result (λ other. other ≡ self.now) }
+    {
+        let source = self.values();
+        let mut values = Vec::with_capacity(alloc, source.len())?;
+        for value in source {
+            values.push(value.copy(alloc)?)?;
+        }
+        Ok(Row::from_values(values))
+    }
+}
+
+/// Compares two rows column by column. A row that is a proper prefix of another is below it.
+#[inline]
+pub fn cmp_rows(a: &Row, b: &Row) -> Ordering
+    ensures { result ≡ row_cmp a.now b.now }
+{
+    if let (Some(x), Some(y)) = (a.number(), b.number())
+        && x != y
+    {
+        return x.cmp(&y);
+    }
+    cmp_all_values(a.values(), b.values())
+}
+
+// Most rows differ in their first integers, so this stays out of the loops of a sort.
+#[inline(never)]
+fn cmp_all_values(a: &[Value], b: &[Value]) -> Ordering
+    ensures { result ≡ row_cmp a.now b.now }
+{
+    let mut left = a;
+    let mut right = b;
+    while let Some((x, next_left)) = left.split_first() {
+        let Some((y, next_right)) = right.split_first() else {
+            return Ordering::Greater;
+        };
+        match cmp_values(x, y) {
+            Ordering::Equal => {}
+            decided => return decided,
+        }
+        left = next_left;
+        right = next_right;
+    }
+    if right.is_empty() {
+        Ordering::Equal
+    } else {
+        Ordering::Less
+    }
+}
+
+/// Compares two values: integers by value, texts by bytes, false before true, and one kind below the next.
+pub fn cmp_values(a: &Value, b: &Value) -> Ordering
+    ensures { result ≡ value_cmp a.now b.now }
+{
+    match (a, b) {
+        (Value::Int(x), Value::Int(y)) => x.cmp(y),
+        (Value::Text(x), Value::Text(y)) => x.bytes().cmp(y.bytes()),
+        (Value::Bool(x), Value::Bool(y)) => x.cmp(y),
+        (Value::Int(_), _) | (Value::Text(_), Value::Bool(_)) => Ordering::Less,
+        (_, Value::Int(_)) | (Value::Bool(_), Value::Text(_)) => Ordering::Greater,
+    }
+}
