@@ -1,0 +1,11 @@
+use Rattle.std.proofs.Common.{◌<◌, ◌∙◌, sym, ap, subst, Some}
+use Rattle.mit_world.proofs.Place.{len_of, key_at}
+use Rattle.mit_world.proofs.files.Files.name_at.Goals as goal
+
+pub index-requires : goal.index-requires
+index-requires c = subst (λ n. c.args.k < n) (len_of _ _ c.self.invariant c.self.view_is ∙ sym c.self.inside.entries.ok.0) c.requires
+
+pub returns : goal.returns
+returns c =
+    let in_range = subst (λ n. c.args.k < n) (len_of _ _ c.self.invariant c.self.view_is) c.requires in
+    key_at _ _ c.self.invariant c.self.view_is _ c.index.result.now in_range c.index.ensures ∙ ap Some (sym c.as_str.ensures.value)

@@ -1,0 +1,4 @@
+pub mod Files
+pub mod Outside
+pub mod Entries
+pub mod Memory
