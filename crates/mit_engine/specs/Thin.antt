@@ -1,0 +1,86 @@
+-- Thin scripts, which read, unite and write bags: when they are formed, and what the step-by-step interpreter does.
+use Rattle.std.specs.Prelude.{◌≡◌, ◌<◌, ◌≤◌, ◌+◌, ◌*◌, ⊤, ◌⊎◌, ℕ, List, [], ◌∷◌, ◌++◌, length, slice_get, slice_set, slice_index_or, sum_by, Some, Result, Ok, Err, if◌then◌else◌, nat_lt}
+use Rattle.mit_rows.specs.Bags.{BagOf, bag_sum}
+use Rattle.mit_world.specs.Files.{FileMap}
+use Rattle.mit_engine.specs.Names.{IsLegal}
+use Rattle.mit_engine.specs.Printed.{Write}
+use Rattle.mit_engine.specs.Rows.{read_bag}
+use Rattle.mit_engine.specs.declared.faults.FaultKind.{FaultKind}
+use Rattle.mit_engine.specs.declared.thin.ThinStep.{ThinStep}
+use Rattle.mit_engine.specs.declared.thin.ThinStep.TheVariants as step
+
+-- the most columns of a read, and the most statements
+abbrev pub most_columns : ℕ
+most_columns = 16
+
+abbrev pub most_statements : ℕ
+most_statements = 1000
+
+-- ---- formed scripts
+
+-- Variables are numbered by their first assignment. A variable's number of columns stands at its number.
+
+-- the columns after an assignment: of the next new variable, or of one that has as many columns already
+abbrev pub columns_after : List ℕ → ℕ → ℕ → List ℕ
+columns_after columns target count = if nat_lt target (length columns) then columns else columns ++ count ∷ []
+
+abbrev pub MayAssign : List ℕ → ℕ → ℕ → Type 0
+MayAssign columns target count = (target ≡ length columns) ⊎ (slice_get columns target ≡ Some count)
+
+-- each argument is assigned before, both arguments of a union have equally many columns, and so have all assignments of one variable
+unfoldable pub FormedFrom : List ℕ → List ThinStep → Type 0
+FormedFrom columns [] = ⊤
+FormedFrom columns (step.Read target name count ∷ steps) =
+    IsLegal name × (1 ≤ count) × (count ≤ most_columns) × MayAssign columns target count × FormedFrom (columns_after columns target count) steps
+FormedFrom columns (step.Union target left right ∷ steps) =
+    (count : ℕ) × (slice_get columns left ≡ Some count) × (slice_get columns right ≡ Some count) × MayAssign columns target count
+    × FormedFrom (columns_after columns target count) steps
+FormedFrom columns (step.Write source name ∷ steps) = IsLegal name × (source < length columns) × FormedFrom columns steps
+
+abbrev pub IsFormed : List ThinStep → Type 0
+IsFormed steps = (length steps ≤ most_statements) × FormedFrom [] steps
+
+-- ---- the step-by-step interpreter
+
+-- how a script ends: with its writes in order, or with the first fault at a statement, counted from 1
+pub data Ending : Type 0 where
+  Finished : List Write → Ending
+  Faulted : ℕ → FaultKind → Ending
+
+-- the store has each variable's bag at its number
+abbrev pub bag_in : List BagOf → ℕ → BagOf
+bag_in store variable = slice_index_or store variable []
+
+abbrev pub assign : List BagOf → ℕ → BagOf → List BagOf
+assign store target bag = if nat_lt target (length store) then slice_set store target bag else store ++ bag ∷ []
+
+-- what follows a read: the later statements over its bag, or its fault
+abbrev pub after_read : (BagOf → Ending) → ℕ → Result BagOf FaultKind → Ending
+after_read later statement (Ok bag) = later bag
+after_read later statement (Err kind) = Faulted statement kind
+
+-- the statements from number `statement` on, over these files, a store and the writes so far
+unfoldable pub exec_from : FileMap → ℕ → List BagOf → List Write → List ThinStep → Ending
+exec_from files statement store writes [] = Finished writes
+exec_from files statement store writes (step.Read target name count ∷ steps) =
+    after_read (λ bag. exec_from files (statement + 1) (assign store target bag) writes steps) statement (read_bag files name count)
+exec_from files statement store writes (step.Union target left right ∷ steps) =
+    exec_from files (statement + 1) (assign store target (bag_sum (bag_in store left ∷ bag_in store right ∷ []))) writes steps
+exec_from files statement store writes (step.Write source name ∷ steps) =
+    exec_from files (statement + 1) store (writes ++ record { name = name; bag = bag_in store source } ∷ []) steps
+
+abbrev pub exec : FileMap → List ThinStep → Ending
+exec files steps = exec_from files 1 [] [] steps
+
+-- ---- the number of actions
+
+-- one edge for each argument
+abbrev pub edges_of : ThinStep → ℕ
+edges_of (step.Read target name count) = 0
+edges_of (step.Union target left right) = 2
+edges_of (step.Write source name) = 1
+
+-- none without statements; else the path's one message, a poll and a report for each statement, and a part for each edge
+abbrev pub actions_of : List ThinStep → ℕ
+actions_of [] = 0
+actions_of (first ∷ steps) = 1 + 2 * length (first ∷ steps) + sum_by edges_of (first ∷ steps)
