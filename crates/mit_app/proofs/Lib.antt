@@ -1,0 +1,6 @@
+mod Forms
+pub mod TokenLemmas
+pub mod ParseLemmas
+pub mod ScriptLemmas
+pub mod CallLemmas
+mod Variables

@@ -1,0 +1,140 @@
+ghost use Rattle.std.specs.Prelude.{◌≡◌, ◌≢◌, ◌≤◌, ◌⊎◌, ◌++◌, List, IfErr, IfSome, OnErr, option_map};
+ghost use Rattle.mit_world.specs.Outside.{Continues, Rose};
+ghost use Rattle.mit_engine.specs.Printed.{Write, published};
+ghost use Rattle.mit_engine.specs.Staging.{published_in};
+ghost use Rattle.mit_engine.specs.declared.thin.ThinStep.{ThinStep};
+ghost use Rattle.mit_app.specs.Due.{Due, IsBeforeStaging, IsOutside, Publishes, PublishesAfresh, TellsOutbox, Verdict, status_of, text_of, texts};
+ghost use Rattle.mit_app.specs.Lines.{folder_line};
+ghost use Rattle.mit_app.specs.Refusals.{EndsFor, IfLine, IfOutsideFails, IfUnstaged, refused_line, refused_status};
+
+use crate::lines::refusal;
+use crate::refused::Refused;
+use crate::run::{fetch, publish, run};
+use crate::words::script_of;
+use mit_world::{Console, Folder, Outbox, OutsideStop};
+use std::alloc::Global;
+
+/// Runs the command that the words are, over this folder, outbox and console, and answers the program's status:
+///
+/// - 0: the script's files are published, and the console has gained the report;
+/// - 1: the script is at fault;
+/// - 2: the words are not `run SCRIPT --parts 1` with a legal file name;
+/// - 3: the script is no thin script;
+/// - 4, 5, 6: the folder, the outbox or the console failed;
+/// - 7: memory ran out;
+/// - 9: the folder has no such script.
+///
+/// At every status but 0 nothing is published, and one line tells why; at 6 and 7 it may be missing.
+pub fn mitos<F: Folder, O: Outbox, C: Console>(
+    alloc: Global,
+    words: &[String],
+    folder: &mut F,
+    outbox: &mut O,
+    console: &mut C,
+) -> u8
+    // The status is one that the outside or memory explains, or what is due over the told files and words.
+    ensures due { IfSome (F.files folder.old) (λ files. IsOutside result
+        ⊎ ((verdict : Verdict) × Due (texts words.now) files verdict × (result ≡ status_of verdict))) }
+
+    // What is due comes, but for the faults of the outside and want of memory.
+    ensures comes { IfSome (F.files folder.old) (λ files. (verdict : Verdict)
+        → Due (texts words.now) files verdict → IsOutside result ⊎ (result ≡ status_of verdict)) }
+    ensures console { IfSome (F.files folder.old) (λ files. (verdict : Verdict)
+        → Due (texts words.now) files verdict → result ≡ status_of verdict
+        → C.written console.new ≡ option_map (λ before. before ++ text_of verdict) (C.written console.old)) }
+    ensures published { IfSome (F.files folder.old) (λ files. (steps : List ThinStep) (writes : List Write)
+        → Due (texts words.now) files (Publishes steps writes) → result ≡ 0
+        → PublishesAfresh (published writes) (O.held outbox.old) (O.held outbox.new)) }
+
+    // At every other status nothing is published, and before staging the outbox is not called.
+    ensures unpublished { result ≢ 0 → published_in (O.held outbox.new) ≡ published_in (O.held outbox.old) }
+    ensures uncalled { IsBeforeStaging result → outbox.new ≡ outbox.old }
+
+    // Each fault of the outside has its cause in this call, and its line.
+    ensures folder_failed { result ≡ 4 → Rose (F.faults folder.old) (F.faults folder.new) }
+    ensures outbox_failed { result ≡ 5 → Rose (O.faults outbox.old) (O.faults outbox.new) }
+    ensures console_failed { result ≡ 6 → Rose (C.faults console.old) (C.faults console.new) }
+    ensures folder_told { result ≡ 4
+        → C.written console.new ≡ option_map (λ before. before ++ folder_line) (C.written console.old) }
+    ensures outbox_told { IfSome (F.files folder.old) (λ files. (verdict : Verdict)
+        → Due (texts words.now) files verdict → result ≡ 5
+        → TellsOutbox (text_of verdict) (C.written console.old) (C.written console.new)) }
+    ensures continues { Continues (C.written console.old) (C.written console.new) }
+
+    // What the folder tells stays, and no count of faults falls.
+    ensures told { F.files folder.new ≡ F.files folder.old }
+    ensures folder_count { F.faults folder.old ≤ F.faults folder.new }
+    ensures outbox_count { O.faults outbox.old ≤ O.faults outbox.new }
+    ensures console_count { C.faults console.old ≤ C.faults console.new }
+{
+    let Some(name) = script_of(words) else {
+        return tell(alloc, "", &Refused::Usage, console);
+    };
+    match attempt(alloc, name, folder, outbox, console) {
+        Ok(()) => 0,
+        Err(refused) => tell(alloc, name, &refused, console),
+    }
+}
+
+// Fetches, runs and publishes the script of this name.
+fn attempt<F: Folder, O: Outbox, C: Console>(
+    alloc: Global,
+    name: &str,
+    folder: &mut F,
+    outbox: &mut O,
+    console: &mut C,
+) -> Result<(), Refused>
+    ensures ends { IfSome (F.files folder.old) (λ files. EndsFor name.now files (O.held outbox.old) (O.held outbox.new)
+        (C.written console.old) (C.written console.new) result) }
+    ensures unpublished { OnErr result (published_in (O.held outbox.new) ≡ published_in (O.held outbox.old)) }
+    ensures uncalled { IfErr result (λ why. IfUnstaged why (outbox.new ≡ outbox.old)) }
+    ensures untold { IfErr result (λ why. IfUnstaged why (console.new ≡ console.old)) }
+    ensures failed { IfErr result (λ why. IfOutsideFails why (Rose (F.faults folder.old) (F.faults folder.new))
+        (Rose (O.faults outbox.old) (O.faults outbox.new)) (Rose (C.faults console.old) (C.faults console.new))) }
+    ensures continues { Continues (C.written console.old) (C.written console.new) }
+    ensures told { F.files folder.new ≡ F.files folder.old }
+    ensures folder_count { F.faults folder.old ≤ F.faults folder.new }
+    ensures outbox_count { O.faults outbox.old ≤ O.faults outbox.new }
+    ensures console_count { C.faults console.old ≤ C.faults console.new }
+{
+    let text = fetch(alloc, name, folder)?;
+    let done = match run(alloc, &text, folder) {
+        Ok(done) => done,
+        Err(refused) => return Err(refused),
+    };
+    publish(alloc, &done, outbox, console)
+}
+
+// Puts the line that tells why nothing is published, and answers the status.
+fn tell<C: Console>(alloc: Global, name: &str, refused: &Refused, console: &mut C) -> u8
+    ensures status { (result ≡ refused_status refused.now) ⊎ (result ≡ 6) ⊎ (result ≡ 7) }
+    ensures told { result ≡ refused_status refused.now → IfLine refused.now
+        (C.written console.new ≡ option_map (λ before. before ++ refused_line name.now refused.now) (C.written console.old)) }
+    ensures failed { result ≡ 6 → (refused.now ≡ Refused.Console) ⊎ Rose (C.faults console.old) (C.faults console.new) }
+    ensures continues { Continues (C.written console.old) (C.written console.new) }
+    ensures count { C.faults console.old ≤ C.faults console.new }
+{
+    if let Refused::Console = refused {
+        return 6;
+    }
+    match refusal(alloc, name, refused) {
+        Ok(text) => put(text.as_bytes(), refused.status(), console),
+        Err(_) => put(b"out of memory\n", 7, console),
+    }
+}
+
+// Puts one line, and answers this status.
+fn put<C: Console>(line: &[u8], status: u8, console: &mut C) -> u8
+    ensures status { (result ≡ status) ⊎ (result ≡ 6) ⊎ (result ≡ 7) }
+    ensures told { status ≢ 6 → status ≢ 7 → result ≡ status
+        → C.written console.new ≡ option_map (λ before. before ++ line.now) (C.written console.old) }
+    ensures failed { status ≢ 6 → result ≡ 6 → Rose (C.faults console.old) (C.faults console.new) }
+    ensures continues { Continues (C.written console.old) (C.written console.new) }
+    ensures count { C.faults console.old ≤ C.faults console.new }
+{
+    match console.put(line) {
+        Ok(()) => status,
+        Err(OutsideStop::Failed) => 6,
+        Err(OutsideStop::NoMemory) => 7,
+    }
+}
