@@ -1,0 +1,13 @@
+//! Expressions over a row and captured scalars: their types and their values.
+#![tactic(auto)]
+
+mod expr;
+mod types;
+mod values;
+
+pub use expr::{BinOp, Call, Expr};
+pub use types::{ExprType, type_of, type_of_value};
+pub use values::{EvalFault, eval};
+
+#[cfg(test)]
+mod tests;

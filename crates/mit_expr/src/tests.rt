@@ -1,0 +1,439 @@
+ghost use Rattle.std.specs.Prelude.{◌≡◌, IfOk, map};
+ghost use Rattle.mit_expr.specs.Types as spec;
+
+use super::*;
+use mit_rows::{ColType, Row, Text, Value};
+use sqlite_items::Boxed;
+use std::alloc::{AllocError, Global};
+use std::process::Abort;
+use std::test::Fail;
+
+const COMPARISONS: [BinOp; 6] = [
+    BinOp::Eq,
+    BinOp::Ne,
+    BinOp::Lt,
+    BinOp::Le,
+    BinOp::Gt,
+    BinOp::Ge,
+];
+
+const TYPES: [ColType; 3] = [ColType::Int, ColType::Text, ColType::Bool];
+
+/// What an evaluation is to answer.
+#[derive(Clone, Copy, Debug)]
+enum Due<'a> {
+    Int(i64),
+    Text(&'a str),
+    Bool(bool),
+    Fault(EvalFault),
+}
+
+fn text(rt: &(impl Abort + AllocGlobal), words: &str) -> Expr {
+    let text = Text::from_str(rt.alloc(), words).expect(rt, "a text within the limit");
+    Expr::Lit(Value::Text(text))
+}
+
+fn boxed(rt: &(impl Abort + AllocGlobal), expr: Expr) -> Boxed<Expr> {
+    Boxed::new(rt.alloc(), expr).expect(rt, "memory")
+}
+
+fn bin(rt: &(impl Abort + AllocGlobal), left: Expr, op: BinOp, right: Expr) -> Expr {
+    Expr::Bin {
+        op,
+        left: boxed(rt, left),
+        right: boxed(rt, right),
+    }
+}
+
+fn not(rt: &(impl Abort + AllocGlobal), arg: Expr) -> Expr {
+    Expr::Not(boxed(rt, arg))
+}
+
+fn call(rt: &(impl Abort + AllocGlobal), call: Call, arg: Expr) -> Expr {
+    Expr::Call {
+        call,
+        arg: boxed(rt, arg),
+    }
+}
+
+/// `1 / 0`
+fn by_zero(rt: &(impl Abort + AllocGlobal)) -> Expr {
+    bin(rt, int(1), BinOp::Div, int(0))
+}
+
+fn int(number: i64) -> Expr {
+    Expr::Lit(Value::Int(number))
+}
+
+fn truth(truth: bool) -> Expr {
+    Expr::Lit(Value::Bool(truth))
+}
+
+fn types_of(alloc: Global, values: &[Value]) -> Result<Vec<ColType>, AllocError>
+    ensures { IfOk result (λ types. types.items ≡ map spec.type_of_value values.now) }
+{
+    values
+        .iter()
+        .map(|value| type_of_value(value))
+        .collect(alloc)
+}
+
+fn eval_at(
+    rt: &(impl Abort + AllocGlobal),
+    expr: &Expr,
+    row: &Row,
+    captures: &[Value],
+) -> Result<Value, EvalFault> {
+    let alloc = rt.alloc();
+    let columns = types_of(alloc, row.values())?;
+    let scalars = types_of(alloc, captures)?;
+    type_of(expr, &columns, &scalars).expect(rt, "an expression with a type");
+    eval(alloc, expr, row, captures)
+}
+
+fn is_due(outcome: &Result<Value, EvalFault>, due: Due<'_>) -> bool {
+    match (outcome, due) {
+        (Ok(Value::Int(found)), Due::Int(wanted)) => *found == wanted,
+        (Ok(Value::Text(found)), Due::Text(wanted)) => found.as_str() == wanted,
+        (Ok(Value::Bool(found)), Due::Bool(wanted)) => *found == wanted,
+        (Err(found), Due::Fault(wanted)) => *found == wanted,
+        _ => false,
+    }
+}
+
+/// Evaluates an expression without columns and captured scalars.
+fn expect_due(rt: &(impl Abort + AllocGlobal), expr: Expr, due: Due<'_>) {
+    let row = Row::from_values(Vec::new(rt.alloc()));
+    let none: [Value; 0] = [];
+    let outcome = eval_at(rt, &expr, &row, none.as_slice());
+    assert!(rt;
+        is_due(&outcome, due),
+        "{expr:?} is {outcome:?} and not {due:?}"
+    );
+}
+
+#[test]
+fn numbers_are_exact_within_64_bits(rt: HostRuntime) {
+    let over = Due::Fault(EvalFault::Overflow);
+    let no_divisor = Due::Fault(EvalFault::DivideByZero);
+    let cases: [(i64, BinOp, i64, Due<'_>); 36] = [
+        (i64::MAX, BinOp::Add, 0, Due::Int(i64::MAX)),
+        (i64::MAX, BinOp::Add, 1, over),
+        (i64::MIN, BinOp::Add, -1, over),
+        (i64::MIN, BinOp::Add, i64::MAX, Due::Int(-1)),
+        (i64::MIN, BinOp::Sub, 0, Due::Int(i64::MIN)),
+        (i64::MIN, BinOp::Sub, 1, over),
+        (i64::MAX, BinOp::Sub, -1, over),
+        (0, BinOp::Sub, i64::MIN, over),
+        (-1, BinOp::Sub, i64::MIN, Due::Int(i64::MAX)),
+        (i64::MIN, BinOp::Mul, 1, Due::Int(i64::MIN)),
+        (i64::MIN, BinOp::Mul, -1, over),
+        (
+            i64::MAX,
+            BinOp::Mul,
+            -1,
+            Due::Int(-9_223_372_036_854_775_807),
+        ),
+        (i64::MAX, BinOp::Mul, 2, over),
+        (
+            -4_294_967_296,
+            BinOp::Mul,
+            2_147_483_648,
+            Due::Int(i64::MIN),
+        ),
+        (4_294_967_296, BinOp::Mul, 2_147_483_648, over),
+        (i64::MIN, BinOp::Mul, 0, Due::Int(0)),
+        (7, BinOp::Div, -2, Due::Int(-3)),
+        (-7, BinOp::Div, 2, Due::Int(-3)),
+        (-7, BinOp::Div, -2, Due::Int(3)),
+        (i64::MIN, BinOp::Div, -1, over),
+        (i64::MIN, BinOp::Div, 1, Due::Int(i64::MIN)),
+        (
+            i64::MAX,
+            BinOp::Div,
+            -1,
+            Due::Int(-9_223_372_036_854_775_807),
+        ),
+        (i64::MAX, BinOp::Div, i64::MIN, Due::Int(0)),
+        (0, BinOp::Div, 0, no_divisor),
+        (i64::MIN, BinOp::Div, 0, no_divisor),
+        (7, BinOp::Rem, -2, Due::Int(1)),
+        (-7, BinOp::Rem, 2, Due::Int(-1)),
+        (-7, BinOp::Rem, -2, Due::Int(-1)),
+        (i64::MIN, BinOp::Rem, -1, over),
+        (i64::MAX, BinOp::Rem, -1, Due::Int(0)),
+        (i64::MIN, BinOp::Rem, 10, Due::Int(-8)),
+        (i64::MAX, BinOp::Rem, i64::MIN, Due::Int(i64::MAX)),
+        (i64::MIN, BinOp::Rem, i64::MAX, Due::Int(-1)),
+        (i64::MIN, BinOp::Rem, i64::MIN, Due::Int(0)),
+        (0, BinOp::Rem, 0, no_divisor),
+        (i64::MIN, BinOp::Rem, 0, no_divisor),
+    ];
+    for (left, op, right, due) in cases {
+        expect_due(&rt, bin(&rt, int(left), op, int(right)), due);
+    }
+}
+
+#[test]
+fn texts_are_read_as_numbers_and_measured(rt: HostRuntime) {
+    let no_number = Due::Fault(EvalFault::NotNumber);
+    let of_texts: [(Call, &str, Due<'_>); 14] = [
+        (Call::ToInt, "", no_number),
+        (Call::ToInt, "-", no_number),
+        (Call::ToInt, "+1", no_number),
+        (Call::ToInt, " 1", no_number),
+        (Call::ToInt, "1-", no_number),
+        (Call::ToInt, "007", Due::Int(7)),
+        (Call::ToInt, "-007", Due::Int(-7)),
+        (Call::ToInt, "9223372036854775807", Due::Int(i64::MAX)),
+        (Call::ToInt, "9223372036854775808", no_number),
+        (Call::ToInt, "-9223372036854775808", Due::Int(i64::MIN)),
+        (Call::ToInt, "-9223372036854775809", no_number),
+        (Call::Len, "", Due::Int(0)),
+        (Call::Len, "abc", Due::Int(3)),
+        (Call::Len, "é", Due::Int(2)),
+    ];
+    for (function, words, due) in of_texts {
+        expect_due(&rt, call(&rt, function, text(&rt, words)), due);
+    }
+}
+
+#[test]
+fn numbers_are_written_in_decimal(rt: HostRuntime) {
+    let cases: [(i64, &str); 4] = [
+        (0, "0"),
+        (-10, "-10"),
+        (i64::MAX, "9223372036854775807"),
+        (i64::MIN, "-9223372036854775808"),
+    ];
+    for (number, words) in cases {
+        let written = call(&rt, Call::ToText, int(number));
+        expect_due(&rt, written, Due::Text(words));
+    }
+}
+
+/// The length of two texts that are joined, or the fault of that.
+fn expect_joined(rt: &(impl Abort + AllocGlobal), left: &str, right: &str, due: Due<'_>) {
+    let both = bin(rt, text(rt, left), BinOp::Concat, text(rt, right));
+    expect_due(rt, call(rt, Call::Len, both), due);
+}
+
+#[test]
+fn texts_are_joined_up_to_the_limit(rt: HostRuntime) -> Result<(), Fail> {
+    let mut words = String::new(rt.alloc());
+    for _ in 0..65_535 {
+        words.push('x')?;
+    }
+    let too_long = Due::Fault(EvalFault::TextTooLong);
+    expect_joined(&rt, words.as_str(), "", Due::Int(65_535));
+    expect_joined(&rt, words.as_str(), "y", Due::Int(65_536));
+    expect_joined(&rt, "y", words.as_str(), Due::Int(65_536));
+    expect_joined(&rt, words.as_str(), "yz", too_long);
+    expect_joined(&rt, "yz", words.as_str(), too_long);
+    let joined = bin(
+        &rt,
+        text(&rt, words.as_str()),
+        BinOp::Concat,
+        text(&rt, "yz"),
+    );
+    let later_fault = call(&rt, Call::ToText, by_zero(&rt));
+    expect_due(&rt, bin(&rt, joined, BinOp::Concat, later_fault), too_long);
+    Ok(())
+}
+
+#[test]
+fn texts_are_joined_in_order(rt: HostRuntime) {
+    let front = bin(&rt, text(&rt, "é"), BinOp::Concat, text(&rt, "ab"));
+    let number = call(&rt, Call::ToText, int(-7));
+    let back = bin(&rt, text(&rt, "c"), BinOp::Concat, number);
+    let all = bin(&rt, front, BinOp::Concat, back);
+    expect_due(&rt, all, Due::Text("éabc-7"));
+}
+
+/// `1 / 0 == 0`
+fn fault(rt: &(impl Abort + AllocGlobal)) -> Expr {
+    bin(rt, by_zero(rt), BinOp::Eq, int(0))
+}
+
+#[test]
+fn the_left_side_may_decide(rt: HostRuntime) {
+    let no_divisor = Due::Fault(EvalFault::DivideByZero);
+    let cases = [
+        (false, BinOp::And, Due::Bool(false)),
+        (true, BinOp::And, no_divisor),
+        (true, BinOp::Or, Due::Bool(true)),
+        (false, BinOp::Or, no_divisor),
+    ];
+    for (left, op, due) in cases {
+        expect_due(&rt, bin(&rt, truth(left), op, fault(&rt)), due);
+        expect_due(&rt, bin(&rt, fault(&rt), op, truth(left)), no_divisor);
+    }
+}
+
+#[test]
+fn truth_values_are_combined(rt: HostRuntime) {
+    for left in [false, true] {
+        for right in [false, true] {
+            let both = bin(&rt, truth(left), BinOp::And, truth(right));
+            expect_due(&rt, both, Due::Bool(left & right));
+            let one = bin(&rt, truth(left), BinOp::Or, truth(right));
+            expect_due(&rt, one, Due::Bool(left | right));
+        }
+        expect_due(&rt, not(&rt, truth(left)), Due::Bool(!left));
+    }
+}
+
+#[test]
+fn the_first_fault_counts(rt: HostRuntime) {
+    for op in [BinOp::Add, BinOp::Rem, BinOp::Eq, BinOp::Lt] {
+        let front = bin(
+            &rt,
+            call(&rt, Call::ToInt, text(&rt, "x")),
+            op,
+            by_zero(&rt),
+        );
+        expect_due(&rt, front, Due::Fault(EvalFault::NotNumber));
+        let back = bin(
+            &rt,
+            by_zero(&rt),
+            op,
+            call(&rt, Call::ToInt, text(&rt, "x")),
+        );
+        expect_due(&rt, back, Due::Fault(EvalFault::DivideByZero));
+    }
+}
+
+/// The six comparisons of two values.
+fn expect_comparisons(rt: &(impl Abort + AllocGlobal), left: Expr, right: Expr, dues: [bool; 6]) {
+    for (op, due) in COMPARISONS.iter().zip(dues.iter()) {
+        let left = left.copy(rt.alloc()).expect(rt, "memory");
+        let right = right.copy(rt.alloc()).expect(rt, "memory");
+        expect_due(rt, bin(rt, left, *op, right), Due::Bool(*due));
+    }
+}
+
+#[test]
+fn values_of_one_type_are_compared(rt: HostRuntime) {
+    let below = [false, true, true, true, false, false];
+    let same = [true, false, false, true, false, true];
+    let above = [false, true, false, false, true, true];
+    expect_comparisons(&rt, int(-9), int(-1), below);
+    expect_comparisons(&rt, int(-9), int(-9), same);
+    expect_comparisons(&rt, int(10), int(9), above);
+    expect_comparisons(&rt, text(&rt, "10"), text(&rt, "9"), below);
+    expect_comparisons(&rt, text(&rt, ""), text(&rt, ""), same);
+    expect_comparisons(&rt, text(&rt, "ab"), text(&rt, "a"), above);
+    expect_comparisons(&rt, truth(false), truth(true), below);
+    expect_comparisons(&rt, truth(true), truth(true), same);
+    expect_comparisons(&rt, truth(true), truth(false), above);
+}
+
+/// The operators, with the type of both their operands, or none where any type may stand on both sides, and theirs.
+const SIGNATURES: [(BinOp, Option<ColType>, ColType); 14] = [
+    (BinOp::Add, Some(ColType::Int), ColType::Int),
+    (BinOp::Sub, Some(ColType::Int), ColType::Int),
+    (BinOp::Mul, Some(ColType::Int), ColType::Int),
+    (BinOp::Div, Some(ColType::Int), ColType::Int),
+    (BinOp::Rem, Some(ColType::Int), ColType::Int),
+    (BinOp::Concat, Some(ColType::Text), ColType::Text),
+    (BinOp::Eq, None, ColType::Bool),
+    (BinOp::Ne, None, ColType::Bool),
+    (BinOp::Lt, None, ColType::Bool),
+    (BinOp::Le, None, ColType::Bool),
+    (BinOp::Gt, None, ColType::Bool),
+    (BinOp::Ge, None, ColType::Bool),
+    (BinOp::And, Some(ColType::Bool), ColType::Bool),
+    (BinOp::Or, Some(ColType::Bool), ColType::Bool),
+];
+
+fn expect_type(
+    rt: &(impl Abort + AllocGlobal),
+    expr: &Expr,
+    column: ColType,
+    capture: ColType,
+    due: Option<ColType>,
+) {
+    let found = type_of(expr, [column].as_slice(), [capture].as_slice());
+    assert!(rt;
+        found.ok() == due,
+        "{expr:?} at {column:?} and {capture:?} is not {due:?}"
+    );
+}
+
+/// An operator over a column and a captured scalar of each two types.
+fn expect_signature(
+    rt: &(impl Abort + AllocGlobal),
+    expr: &Expr,
+    operands: Option<ColType>,
+    gives: ColType,
+) {
+    for left in TYPES {
+        for right in TYPES {
+            let fits = left == right && left == operands.unwrap_or(left);
+            expect_type(rt, expr, left, right, if fits { Some(gives) } else { None });
+        }
+    }
+}
+
+#[test]
+fn operators_take_their_types_alone(rt: HostRuntime) {
+    for (op, operands, gives) in SIGNATURES {
+        let expr = bin(&rt, Expr::Column(0), op, Expr::Capture(0));
+        expect_signature(&rt, &expr, operands, gives);
+        let beyond = bin(&rt, Expr::Column(0), op, Expr::Capture(1));
+        expect_type(&rt, &beyond, ColType::Bool, ColType::Bool, None);
+        let beyond = bin(&rt, Expr::Column(1), op, Expr::Capture(0));
+        expect_type(&rt, &beyond, ColType::Bool, ColType::Bool, None);
+    }
+}
+
+/// A function of the column, which is to be of this type.
+fn expect_function(rt: &(impl Abort + AllocGlobal), expr: Expr, wanted: ColType, gives: ColType) {
+    for is in TYPES {
+        let due = if is == wanted { Some(gives) } else { None };
+        expect_type(rt, &expr, is, is, due);
+    }
+}
+
+#[test]
+fn functions_take_their_type_alone(rt: HostRuntime) {
+    let to_text = call(&rt, Call::ToText, Expr::Column(0));
+    expect_function(&rt, to_text, ColType::Int, ColType::Text);
+    let to_int = call(&rt, Call::ToInt, Expr::Column(0));
+    expect_function(&rt, to_int, ColType::Text, ColType::Int);
+    let length = call(&rt, Call::Len, Expr::Column(0));
+    expect_function(&rt, length, ColType::Text, ColType::Int);
+    let negation = not(&rt, Expr::Column(0));
+    expect_function(&rt, negation, ColType::Bool, ColType::Bool);
+}
+
+#[test]
+fn columns_and_captures_are_read(rt: HostRuntime) -> Result<(), Fail> {
+    let row = Row::from_values(vec![in rt.alloc(); Value::Bool(true), Value::Int(5)]?);
+    let captures = vec![in rt.alloc(); Value::Int(7), Value::Int(-3), Value::Bool(false)]?;
+    let sum = bin(&rt, Expr::Column(1), BinOp::Add, Expr::Capture(1));
+    let outcome = eval_at(&rt, &sum, &row, &captures);
+    assert!(rt; is_due(&outcome, Due::Int(2)), "{outcome:?}");
+    let choice = bin(&rt, Expr::Column(0), BinOp::And, Expr::Capture(2));
+    let outcome = eval_at(&rt, &choice, &row, &captures);
+    assert!(rt; is_due(&outcome, Due::Bool(false)), "{outcome:?}");
+    Ok(())
+}
+
+#[test]
+fn a_copy_is_an_equal_tree(rt: HostRuntime) -> Result<(), Fail> {
+    let length = call(&rt, Call::Len, text(&rt, "ab"));
+    let rest = bin(&rt, Expr::Column(3), BinOp::Sub, int(-4));
+    let product = bin(&rt, length, BinOp::Mul, rest);
+    let test = bin(&rt, product, BinOp::Ge, Expr::Capture(300));
+    let expr = bin(&rt, not(&rt, test), BinOp::Or, truth(false));
+    let copy = expr.copy(rt.alloc())?;
+    let printed = format!(in rt.alloc(); "{expr:?}")?;
+    let printed_copy = format!(in rt.alloc(); "{copy:?}")?;
+    assert_eq!(rt; printed.as_str(), printed_copy.as_str());
+    assert!(rt;
+        printed.as_str().starts_with("Bin { op: Or, left: "),
+        "{printed}"
+    );
+    Ok(())
+}

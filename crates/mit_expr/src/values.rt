@@ -1,0 +1,319 @@
+ghost use Rattle.std.specs.Prelude.{◌≡◌, ℤ, ◌+ℤ◌, ◌-ℤ◌, ◌*ℤ◌, ◌++◌, List, ℕ, map, slice_get, length, nat_le, if◌then◌else◌, pos, Ok, Err, Some, Result, IsSome, IsTrue, IfErr, IfOk, OnOk, string_bytes, MatchResult, FitsSigned, true, false};
+ghost use Rattle.std.specs.Int.{w64};
+ghost use Rattle.std.specs.Option.{SomeIff};
+ghost use Rattle.mit_expr.specs.Types.{type_in, type_of_value};
+ghost use Rattle.mit_expr.specs.Values as spec;
+
+use crate::expr::{BinOp, Call, Expr};
+use itoa::Buffer;
+use mit_rows::{MAX_TEXT, Row, Text, TextRefused, Value, cmp_values, parse_int};
+use std::alloc::{AllocError, Global};
+
+/// Why an expression has no value.
+#[derive(Clone, Copy, Debug, PartialEq, Eq)]
+pub enum EvalFault {
+    /// A number is outside 64 bits.
+    Overflow,
+    /// A divisor is zero.
+    DivideByZero,
+    /// A text is no integer within 64 bits.
+    NotNumber,
+    /// A text has more than 65,536 bytes.
+    TextTooLong,
+    /// Memory ran out.
+    NoMemory,
+}
+
+impl From<AllocError> for EvalFault {
+    ghost use Rattle.mit_expr.specs.declared.values.EvalFault.TheVariants.{NoMemory};
+
+    ghost from_gives = { λ _ fault. fault ≡ NoMemory };
+
+    fn from(_: AllocError) -> EvalFault {
+        EvalFault::NoMemory
+    }
+}
+
+/// An exact number as a value, where it was within 64 bits.
+fn exact(number: Option<i64>) -> Result<Value, EvalFault>
+    ensures { (due : ℤ) → SomeIff number (FitsSigned w64 due) due → result ≡ spec.within due }
+{
+    match number {
+        Some(number) => Ok(Value::Int(number)),
+        None => Err(EvalFault::Overflow),
+    }
+}
+
+fn add(left: i64, right: i64) -> Result<Value, EvalFault>
+    ensures { result ≡ spec.within (left +ℤ right) }
+{
+    exact(left.checked_add(right))
+}
+
+fn subtract(left: i64, right: i64) -> Result<Value, EvalFault>
+    ensures { result ≡ spec.within (left -ℤ right) }
+{
+    exact(left.checked_sub(right))
+}
+
+fn multiply(left: i64, right: i64) -> Result<Value, EvalFault>
+    ensures { result ≡ spec.within (left *ℤ right) }
+{
+    exact(left.checked_mul(right))
+}
+
+fn divide(left: i64, right: i64) -> Result<Value, EvalFault>
+    ensures { result ≡ spec.quotient left right }
+{
+    if right == 0 {
+        return Err(EvalFault::DivideByZero);
+    }
+    match left.checked_div(right) {
+        Some(quotient) => Ok(Value::Int(quotient)),
+        None => Err(EvalFault::Overflow),
+    }
+}
+
+fn remain(left: i64, right: i64) -> Result<Value, EvalFault>
+    ensures { result ≡ spec.remainder left right }
+{
+    if right == 0 {
+        return Err(EvalFault::DivideByZero);
+    }
+    match left.checked_rem(right) {
+        Some(remainder) => Ok(Value::Int(remainder)),
+        None => Err(EvalFault::Overflow),
+    }
+}
+
+/// A text as a value, where it has at most 65,536 bytes.
+fn keep_text(alloc: Global, text: &str) -> Result<Value, EvalFault>
+    ensures { spec.Evaluates (if nat_le (length text.now) 65536
+        then Ok (Value.Text text.now) else Err EvalFault.TextTooLong) result }
+{
+    match Text::from_str(alloc, text) {
+        Ok(text) => Ok(Value::Text(text)),
+        Err(TextRefused::TooLong) => Err(EvalFault::TextTooLong),
+        Err(TextRefused::NoMemory) => Err(EvalFault::NoMemory),
+    }
+}
+
+/// Two integers.
+fn ints(left: &Value, right: &Value) -> Result<(i64, i64), EvalFault>
+    ensures { (over : ℤ → ℤ → Result Value EvalFault) → MatchResult result
+        (λ both. spec.of_ints over left.now right.now ≡ over both.0 both.1)
+        (λ fault. (fault ≡ EvalFault.NotNumber) × (spec.of_ints over left.now right.now ≡ Err fault)) }
+{
+    match (left, right) {
+        (Value::Int(left), Value::Int(right)) => Ok((*left, *right)),
+        _ => Err(EvalFault::NotNumber),
+    }
+}
+
+/// An operator over its two values, where both are always evaluated and none is a text to be joined.
+fn operate(op: BinOp, left: &Value, right: &Value) -> Result<Value, EvalFault>
+    requires { IsTrue (spec.is_strict op) }
+    ensures { result ≡ spec.operate op left.now right.now }
+{
+    match op {
+        BinOp::Add => {
+            let (left, right) = ints(left, right)?;
+            add(left, right)
+        }
+        BinOp::Sub => {
+            let (left, right) = ints(left, right)?;
+            subtract(left, right)
+        }
+        BinOp::Mul => {
+            let (left, right) = ints(left, right)?;
+            multiply(left, right)
+        }
+        BinOp::Div => {
+            let (left, right) = ints(left, right)?;
+            divide(left, right)
+        }
+        BinOp::Rem => {
+            let (left, right) = ints(left, right)?;
+            remain(left, right)
+        }
+        BinOp::Eq => Ok(Value::Bool(cmp_values(left, right).is_eq())),
+        BinOp::Ne => Ok(Value::Bool(cmp_values(left, right).is_ne())),
+        BinOp::Lt => Ok(Value::Bool(cmp_values(left, right).is_lt())),
+        BinOp::Le => Ok(Value::Bool(cmp_values(left, right).is_le())),
+        BinOp::Gt => Ok(Value::Bool(cmp_values(left, right).is_gt())),
+        BinOp::Ge => Ok(Value::Bool(cmp_values(left, right).is_ge())),
+        BinOp::Concat | BinOp::And | BinOp::Or => unreachable!(),
+    }
+}
+
+/// Whether the left value of `and` or `or` decides, so that the right side is not evaluated.
+fn decides(op: BinOp, left: &Value) -> bool
+    ensures { result ≡ spec.decides op left.now }
+{
+    match (op, left) {
+        (BinOp::And, Value::Bool(truth)) => !*truth,
+        (BinOp::Or, Value::Bool(truth)) => *truth,
+        _ => false,
+    }
+}
+
+/// The other truth value; any other value as it is.
+fn negate(value: Value) -> Value
+    ensures { spec.negated (Ok value) ≡ Ok result }
+{
+    match value {
+        Value::Bool(truth) => Value::Bool(!truth),
+        other => other,
+    }
+}
+
+/// A function over its value; any other value as it is.
+fn call_on(alloc: Global, call: Call, value: Value) -> Result<Value, EvalFault>
+    ensures { spec.Evaluates (spec.call_value call value) result }
+{
+    match (call, value) {
+        (Call::ToText, Value::Int(number)) => keep_text(alloc, Buffer::new().format(number)),
+        (Call::ToInt, Value::Text(text)) => match parse_int(text.bytes()) {
+            Some(number) => Ok(Value::Int(number)),
+            None => Err(EvalFault::NotNumber),
+        },
+        (Call::Len, Value::Text(text)) => Ok(Value::Int(text.bytes().len() as i64)),
+        (_, other) => Ok(other),
+    }
+}
+
+/// A copy of the value at this place.
+fn value_at(alloc: Global, values: &[Value], place: usize) -> Result<Value, EvalFault>
+    ensures { spec.Evaluates (spec.value_at (slice_get values.now place)) result }
+{
+    match values.get(place) {
+        Some(value) => Ok(value.copy(alloc)?),
+        None => Err(EvalFault::NotNumber),
+    }
+}
+
+/// The value of any expression, also of one without a type.
+#[cycle(evaluate)]
+fn evaluate(alloc: Global, expr: &Expr, row: &Row, captures: &[Value]) -> Result<Value, EvalFault>
+    ensures { spec.Evaluates (spec.value_in row.now captures.now expr.now) result }
+{
+    match expr {
+        Expr::Column(column) => value_at(alloc, row.values(), usize::from(*column)),
+        Expr::Capture(capture) => value_at(alloc, captures, usize::from(*capture)),
+        Expr::Lit(value) => Ok(value.copy(alloc)?),
+        Expr::Bin { op, left, right } => {
+            evaluate_both(alloc, *op, left.get(), right.get(), row, captures)
+        }
+        Expr::Not(arg) => Ok(negate(evaluate(alloc, arg.get(), row, captures)?)),
+        Expr::Call { call, arg } => {
+            let arg = evaluate(alloc, arg.get(), row, captures)?;
+            call_on(alloc, *call, arg)
+        }
+    }
+}
+
+/// The value of an operator over its operands.
+#[cycle(evaluate)]
+fn evaluate_both(
+    alloc: Global,
+    op: BinOp,
+    left: &Expr,
+    right: &Expr,
+    row: &Row,
+    captures: &[Value],
+) -> Result<Value, EvalFault>
+    ensures { spec.Evaluates (spec.combined op (spec.value_in row.now captures.now left.now)
+        (spec.value_in row.now captures.now right.now)) result }
+{
+    match op {
+        BinOp::Concat => {
+            let mut text = String::new(alloc);
+            join(alloc, left, right, row, captures, &mut text)?;
+            keep_text(alloc, text.as_str())
+        }
+        BinOp::And | BinOp::Or => {
+            let left = evaluate(alloc, left, row, captures)?;
+            if decides(op, &left) {
+                Ok(left)
+            } else {
+                evaluate(alloc, right, row, captures)
+            }
+        }
+        _ => {
+            let left = evaluate(alloc, left, row, captures)?;
+            let right = evaluate(alloc, right, row, captures)?;
+            operate(op, &left, &right)
+        }
+    }
+}
+
+/// Adds the texts of two expressions to a text, so that a row of `++` copies each part once.
+#[cycle(evaluate)]
+fn join(
+    alloc: Global,
+    left: &Expr,
+    right: &Expr,
+    row: &Row,
+    captures: &[Value],
+    text: &mut String,
+) -> Result<(), EvalFault>
+    ensures ok { OnOk result (spec.Joins (spec.combined BinOp.Concat
+        (spec.value_in row.now captures.now left.now) (spec.value_in row.now captures.now right.now))
+        (string_bytes text.old) (string_bytes text.new)) }
+    ensures err { IfErr result (λ fault. spec.Evaluates (spec.combined BinOp.Concat
+        (spec.value_in row.now captures.now left.now) (spec.value_in row.now captures.now right.now))
+        (Err fault)) }
+{
+    let start = text.len();
+    let left_is_text = append(alloc, left, row, captures, text)?;
+    let right_is_text = append(alloc, right, row, captures, text)?;
+    if !left_is_text || !right_is_text {
+        return Err(EvalFault::NotNumber);
+    }
+    if text.len() - start > MAX_TEXT {
+        return Err(EvalFault::TextTooLong);
+    }
+    Ok(())
+}
+
+/// Adds the text of an expression to a text, where its value is one, and says whether it is.
+#[cycle(evaluate)]
+fn append(
+    alloc: Global,
+    expr: &Expr,
+    row: &Row,
+    captures: &[Value],
+    text: &mut String,
+) -> Result<bool, EvalFault>
+    ensures ok { IfOk result (spec.Appends (spec.value_in row.now captures.now expr.now)
+        (string_bytes text.old) (string_bytes text.new)) }
+    ensures err { IfErr result (λ fault. spec.Evaluates
+        (spec.value_in row.now captures.now expr.now) (Err fault)) }
+{
+    if let Expr::Bin {
+        op: BinOp::Concat,
+        left,
+        right,
+    } = expr
+    {
+        join(alloc, left.get(), right.get(), row, captures, text)?;
+        return Ok(true);
+    }
+    let Value::Text(more) = evaluate(alloc, expr, row, captures)? else {
+        return Ok(false);
+    };
+    text.push_str(more.as_str())?;
+    Ok(true)
+}
+
+/// The value of an expression at a row and captured values, its operands evaluated from left to right.
+///
+/// The first fault is the expression's.
+pub fn eval(alloc: Global, expr: &Expr, row: &Row, captures: &[Value]) -> Result<Value, EvalFault>
+    requires { IsSome (type_in (map type_of_value row.now) (map type_of_value captures.now) expr.now) }
+    ensures value { spec.Evaluates (spec.value_in row.now captures.now expr.now) result }
+    ensures typed { IfOk result (λ value. type_in (map type_of_value row.now)
+        (map type_of_value captures.now) expr.now ≡ Some (type_of_value value)) }
+{
+    evaluate(alloc, expr, row, captures)
+}
