@@ -16,6 +16,10 @@ use Rattle.mit_app.specs.ThinText.{IsThin}
 abbrev pub IsRun : List (List ℕ) → List ℕ → Type 0
 IsRun words script = (words ≡ codes "run" ∷ script ∷ codes "--parts" ∷ codes "1" ∷ []) × IsLegal script
 
+-- the words are no command
+abbrev pub IsUsage : List (List ℕ) → Type 0
+IsUsage words = (script : List ℕ) → ¬ IsRun words script
+
 -- how a call ends by itself: the words are refused, the script is absent or no thin script, it is at fault, or it is published
 pub data Verdict : Type 0 where
   Usage : Verdict
@@ -36,7 +40,7 @@ DueFor name files (Publishes steps writes) =
 
 -- what is due over these words and files
 abbrev pub Due : List (List ℕ) → FileMap → Verdict → Type 0
-Due words files Usage = (script : List ℕ) → ¬ IsRun words script
+Due words files Usage = IsUsage words
 Due words files (Absent missing) = (script : List ℕ) × IsRun words script × DueFor script files (Absent missing)
 Due words files NotThin = (script : List ℕ) × IsRun words script × DueFor script files NotThin
 Due words files (AtFault statement kind) = (script : List ℕ) × IsRun words script × DueFor script files (AtFault statement kind)

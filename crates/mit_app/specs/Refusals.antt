@@ -44,9 +44,9 @@ RefusesFor name files why.Outbox = ⊥
 RefusesFor name files why.Console = ⊥
 RefusesFor name files why.NoMemory = ⊤
 
--- a fact where the folder failed, where the outbox failed and where the console failed
+-- a fact where the folder failed, where the outbox failed and where the console failed; here the words are not refused any more
 abbrev pub IfOutsideFails : Refused → Type 0 → Type 0 → Type 0 → Type 0
-IfOutsideFails why.Usage folder outbox console = ⊤
+IfOutsideFails why.Usage folder outbox console = ⊥
 IfOutsideFails why.Absent folder outbox console = ⊤
 IfOutsideFails why.NotThin folder outbox console = ⊤
 IfOutsideFails (why.Fault fault) folder outbox console = ⊤

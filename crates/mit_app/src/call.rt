@@ -3,8 +3,8 @@ ghost use Rattle.mit_world.specs.Outside.{Continues, Rose};
 ghost use Rattle.mit_engine.specs.Printed.{Write, published};
 ghost use Rattle.mit_engine.specs.Staging.{published_in};
 ghost use Rattle.mit_engine.specs.declared.thin.ThinStep.{ThinStep};
-ghost use Rattle.mit_app.specs.Due.{Due, IsBeforeStaging, IsOutside, Publishes, PublishesAfresh, TellsOutbox, Verdict, status_of, text_of, texts};
-ghost use Rattle.mit_app.specs.Lines.{folder_line};
+ghost use Rattle.mit_app.specs.Due.{Due, IsBeforeStaging, IsOutside, IsUsage, Publishes, PublishesAfresh, TellsOutbox, Verdict, status_of, text_of, texts};
+ghost use Rattle.mit_app.specs.Lines.{folder_line, usage_line};
 ghost use Rattle.mit_app.specs.Refusals.{EndsFor, IfLine, IfOutsideFails, IfUnstaged, refused_line, refused_status};
 
 use crate::lines::refusal;
@@ -45,6 +45,12 @@ pub fn mitos<F: Folder, O: Outbox, C: Console>(
     ensures published { IfSome (F.files folder.old) (λ files. (steps : List ThinStep) (writes : List Write)
         → Due (texts words.now) files (Publishes steps writes) → result ≡ 0
         → PublishesAfresh (published writes) (O.held outbox.old) (O.held outbox.new)) }
+
+    // Whatever the folder tells, the words alone decide on the usage line, and then neither folder nor outbox is called.
+    ensures usage { result ≡ 2 → IsUsage (texts words.now)
+        × (C.written console.new ≡ option_map (λ before. before ++ usage_line) (C.written console.old)) }
+    ensures no_command { IsUsage (texts words.now)
+        → ((result ≡ 2) ⊎ (result ≡ 6) ⊎ (result ≡ 7)) × (folder.new ≡ folder.old) × (outbox.new ≡ outbox.old) }
 
     // At every other status nothing is published, and before staging the outbox is not called.
     ensures unpublished { result ≢ 0 → published_in (O.held outbox.new) ≡ published_in (O.held outbox.old) }

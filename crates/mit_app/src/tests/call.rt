@@ -39,6 +39,7 @@ struct Left {
     published: Option<String>,
     staged: String,
     reads: u64,
+    outbox_calls: u64,
 }
 
 impl Left {
@@ -81,6 +82,7 @@ fn call(alloc: Global, words: &str, files: Files, fails: Fails<'_>) -> Result<Le
         published,
         staged: shown(alloc, outbox.staged())?,
         reads: folder.calls(),
+        outbox_calls: outbox.calls(),
     })
 }
 
@@ -216,6 +218,7 @@ fn other_words_are_no_command(rt: HostRuntime) -> Result<(), Fail> {
         let left = call(rt.alloc(), words, files_with(rt.alloc(), TWICE)?, SOUND)?;
         assert_eq!(rt; left.refusal(), Some((2, usage)), "{words}");
         assert_eq!(rt; left.reads, 0, "{words}");
+        assert_eq!(rt; left.outbox_calls, 0, "{words}");
     }
     Ok(())
 }
