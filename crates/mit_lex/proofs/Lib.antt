@@ -1,0 +1,6 @@
+pub mod Digits
+pub mod PieceFacts
+pub mod PieceSizes
+pub mod QuoteFacts
+pub mod Runs
+pub mod ScanFacts

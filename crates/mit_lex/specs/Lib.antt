@@ -1,0 +1,5 @@
+pub mod Tables
+pub mod Pieces
+pub mod Quotes
+pub mod Limits
+pub mod Tokens
