@@ -7,7 +7,7 @@ use Rattle.mit_world.specs.Outside.{Held}
 use Rattle.mit_engine.specs.Names.{IsLegal}
 use Rattle.mit_engine.specs.Printed.{Write, published}
 use Rattle.mit_engine.specs.Thin.{Faulted, Finished, actions_of, exec}
-use Rattle.mit_engine.specs.declared.faults.FaultKind.{FaultKind}
+use Rattle.mit_ops.specs.declared.faults.FaultKind.{FaultKind}
 use Rattle.mit_engine.specs.declared.thin.ThinStep.{ThinStep}
 use Rattle.mit_app.specs.Lines.{absent_line, fault_line, not_thin_line, outbox_line, report_line, usage_line}
 use Rattle.mit_app.specs.ThinText.{IsThin}

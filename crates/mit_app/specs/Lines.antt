@@ -1,7 +1,7 @@
 -- The lines of the console. Each ends with a line feed.
 use Rattle.std.specs.Prelude.{ℕ, List, [], ◌∷◌, ◌++◌, codes, decimal}
-use Rattle.mit_engine.specs.declared.faults.FaultKind.{FaultKind}
-use Rattle.mit_engine.specs.declared.faults.FaultKind.TheVariants as kind
+use Rattle.mit_ops.specs.declared.faults.FaultKind.{FaultKind}
+use Rattle.mit_ops.specs.declared.faults.FaultKind.TheVariants as kind
 
 -- a line of these parts
 abbrev pub line : List (List ℕ) → List ℕ

@@ -11,6 +11,7 @@ use crate::lines::refusal;
 use crate::refused::Refused;
 use crate::run::{fetch, publish, run};
 use crate::words::script_of;
+use mit_engine::{Schedule, Seeded};
 use mit_world::{Console, Folder, Outbox, OutsideStop};
 use std::alloc::Global;
 
@@ -24,7 +25,8 @@ use std::alloc::Global;
 /// - 7: memory ran out;
 /// - 9: the folder has no such script.
 ///
-/// At every status but 0 nothing is published, and one line tells why; at 6 and 7 it may be missing.
+/// At every status but 0 nothing is published, and one line tells why; at 6 and 7 it may be missing. Until it can be
+/// given, the seed of the schedule is 0.
 pub fn mitos<F: Folder, O: Outbox, C: Console>(
     alloc: Global,
     words: &[String],
@@ -46,12 +48,6 @@ pub fn mitos<F: Folder, O: Outbox, C: Console>(
         → Due (texts words.now) files (Publishes steps writes) → result ≡ 0
         → PublishesAfresh (published writes) (O.held outbox.old) (O.held outbox.new)) }
 
-    // Whatever the folder tells, the words alone decide on the usage line, and then neither folder nor outbox is called.
-    ensures usage { result ≡ 2 → IsUsage (texts words.now)
-        × (C.written console.new ≡ option_map (λ before. before ++ usage_line) (C.written console.old)) }
-    ensures no_command { IsUsage (texts words.now)
-        → ((result ≡ 2) ⊎ (result ≡ 6) ⊎ (result ≡ 7)) × (folder.new ≡ folder.old) × (outbox.new ≡ outbox.old) }
-
     // At every other status nothing is published, and before staging the outbox is not called.
     ensures unpublished { result ≢ 0 → published_in (O.held outbox.new) ≡ published_in (O.held outbox.old) }
     ensures uncalled { IsBeforeStaging result → outbox.new ≡ outbox.old }
@@ -67,6 +63,12 @@ pub fn mitos<F: Folder, O: Outbox, C: Console>(
         → TellsOutbox (text_of verdict) (C.written console.old) (C.written console.new)) }
     ensures continues { Continues (C.written console.old) (C.written console.new) }
 
+    // Whatever the folder tells, the words alone decide on the usage line, and then folder and outbox are as they were.
+    ensures usage { result ≡ 2 → IsUsage (texts words.now)
+        × (C.written console.new ≡ option_map (λ before. before ++ usage_line) (C.written console.old)) }
+    ensures no_command { IsUsage (texts words.now)
+        → ((result ≡ 2) ⊎ (result ≡ 6) ⊎ (result ≡ 7)) × (folder.new ≡ folder.old) × (outbox.new ≡ outbox.old) }
+
     // What the folder tells stays, and no count of faults falls.
     ensures told { F.files folder.new ≡ F.files folder.old }
     ensures folder_count { F.faults folder.old ≤ F.faults folder.new }
@@ -76,16 +78,20 @@ pub fn mitos<F: Folder, O: Outbox, C: Console>(
     let Some(name) = script_of(words) else {
         return tell(alloc, "", &Refused::Usage, console);
     };
-    match attempt(alloc, name, folder, outbox, console) {
+    let mut schedule = Seeded::new(alloc, 0);
+    let ended = attempt(alloc, name, &mut schedule, folder, outbox, console);
+    drop(schedule);
+    match ended {
         Ok(()) => 0,
         Err(refused) => tell(alloc, name, &refused, console),
     }
 }
 
-// Fetches, runs and publishes the script of this name.
-fn attempt<F: Folder, O: Outbox, C: Console>(
+/// Fetches, runs and publishes the script of this name.
+pub(crate) fn attempt<S: Schedule, F: Folder, O: Outbox, C: Console>(
     alloc: Global,
     name: &str,
+    schedule: &mut S,
     folder: &mut F,
     outbox: &mut O,
     console: &mut C,
@@ -104,7 +110,7 @@ fn attempt<F: Folder, O: Outbox, C: Console>(
     ensures console_count { C.faults console.old ≤ C.faults console.new }
 {
     let text = fetch(alloc, name, folder)?;
-    let done = match run(alloc, &text, folder) {
+    let done = match run(alloc, &text, schedule, folder) {
         Ok(done) => done,
         Err(refused) => return Err(refused),
     };

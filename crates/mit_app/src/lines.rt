@@ -3,7 +3,7 @@ ghost use Rattle.mit_app.specs.Lines.{fault_line, kind_words, report_line};
 ghost use Rattle.mit_app.specs.Refusals.{refused_line};
 
 use crate::refused::Refused;
-use mit_engine::{FaultKind, ScriptFault};
+use mit_ops::{FaultKind, ScriptFault};
 use std::alloc::{AllocError, Global};
 
 /// The line that tells how a run ended.

@@ -1,7 +1,7 @@
 ghost use Rattle.std.specs.Prelude.{◌≡◌};
 ghost use Rattle.mit_app.specs.Refusals.{refused_status};
 
-use mit_engine::ScriptFault;
+use mit_ops::ScriptFault;
 
 /// Why a call publishes nothing.
 #[derive(Drop)]

@@ -10,7 +10,7 @@ use crate::lines::report;
 use crate::refused::Refused;
 use crate::script::read_thin;
 use crate::tokens::ReadStop;
-use mit_engine::{Done, Seeded, Stop, run_thin, stage_all};
+use mit_engine::{Done, Schedule, Stop, run_thin, stage_all};
 use mit_world::{Console, Folder, Outbox, OutsideStop};
 use std::alloc::Global;
 
@@ -35,8 +35,13 @@ pub(crate) fn fetch<F: Folder>(
     }
 }
 
-/// What a run of the script leaves. Until it can be given, the seed of the schedule is 0.
-pub(crate) fn run<F: Folder>(alloc: Global, text: &[u8], folder: &mut F) -> Result<Done, Refused>
+/// What a run of the script under this schedule leaves.
+pub(crate) fn run<S: Schedule, F: Folder>(
+    alloc: Global,
+    text: &[u8],
+    schedule: &mut S,
+    folder: &mut F,
+) -> Result<Done, Refused>
     ensures due { IfSome (F.files folder.old) (λ files. RunsFor text.now files result) }
     ensures failed { IfErr result (λ why. IfOutsideFails why (Rose (F.faults folder.old) (F.faults folder.new)) ⊥ ⊥) }
     ensures told { F.files folder.new ≡ F.files folder.old }
@@ -47,8 +52,7 @@ pub(crate) fn run<F: Folder>(alloc: Global, text: &[u8], folder: &mut F) -> Resu
         Err(ReadStop::NotThin) => return Err(Refused::NotThin),
         Err(ReadStop::NoMemory) => return Err(Refused::NoMemory),
     };
-    let mut schedule = Seeded::new(alloc, 0);
-    match run_thin(alloc, &script, folder, &mut schedule) {
+    match run_thin(alloc, &script, folder, schedule) {
         Ok(done) => Ok(done),
         Err(Stop::Fault(fault)) => Err(Refused::Fault(fault)),
         Err(Stop::Folder) => Err(Refused::Folder),

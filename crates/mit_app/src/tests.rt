@@ -1,3 +1,4 @@
 mod call;
 mod parse;
+mod schedules;
 mod tokens;

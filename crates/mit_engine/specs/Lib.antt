@@ -6,3 +6,5 @@ pub mod Staging
 pub mod Picks
 pub mod Thin
 pub mod Job
+pub mod Operators
+pub mod Running

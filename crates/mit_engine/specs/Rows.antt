@@ -6,8 +6,8 @@ use Rattle.mit_rows.specs.Integers.{int_of}
 use Rattle.mit_rows.specs.Bags.{BagOf, RowOf, bag_of}
 use Rattle.mit_rows.specs.declared.value.Value.TheVariants.{Int}
 use Rattle.mit_world.specs.Files.{FileMap}
-use Rattle.mit_engine.specs.declared.faults.FaultKind.{FaultKind}
-use Rattle.mit_engine.specs.declared.faults.FaultKind.TheVariants.{NoFile, BadRow}
+use Rattle.mit_ops.specs.declared.faults.FaultKind.{FaultKind}
+use Rattle.mit_ops.specs.declared.faults.FaultKind.TheVariants.{NoFile, BadRow}
 use Rattle.mit_engine.specs.declared.rows.RowsRefused.{RowsRefused}
 use Rattle.mit_engine.specs.declared.rows.RowsRefused.TheVariants as refused
 

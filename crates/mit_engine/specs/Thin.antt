@@ -5,7 +5,7 @@ use Rattle.mit_world.specs.Files.{FileMap}
 use Rattle.mit_engine.specs.Names.{IsLegal}
 use Rattle.mit_engine.specs.Printed.{Write}
 use Rattle.mit_engine.specs.Rows.{read_bag}
-use Rattle.mit_engine.specs.declared.faults.FaultKind.{FaultKind}
+use Rattle.mit_ops.specs.declared.faults.FaultKind.{FaultKind}
 use Rattle.mit_engine.specs.declared.thin.ThinStep.{ThinStep}
 use Rattle.mit_engine.specs.declared.thin.ThinStep.TheVariants as step
 
@@ -51,8 +51,9 @@ pub data Ending : Type 0 where
 abbrev pub bag_in : List BagOf → ℕ → BagOf
 bag_in store variable = slice_index_or store variable []
 
-abbrev pub assign : List BagOf → ℕ → BagOf → List BagOf
-assign store target bag = if nat_lt target (length store) then slice_set store target bag else store ++ bag ∷ []
+-- a list with one item more or in the place of an old one, at the next new place or at one that it has
+abbrev pub assign : {A : Type 0} → List A → ℕ → A → List A
+assign store target item = if nat_lt target (length store) then slice_set store target item else store ++ item ∷ []
 
 -- what follows a read: the later statements over its bag, or its fault
 abbrev pub after_read : (BagOf → Ending) → ℕ → Result BagOf FaultKind → Ending

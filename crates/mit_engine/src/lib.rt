@@ -1,9 +1,13 @@
 //! The thin job: it reads, unites and writes bags. With it stand the rows of a file, the shelf of what was read,
-//! staging, faults, and the schedule of a job.
+//! staging, and the schedule of a job.
 #![tactic(auto)]
 
-mod faults;
+mod channel;
+mod edges;
+mod job;
 mod names;
+mod operators;
+mod polls;
 mod printed;
 mod rows;
 mod schedule;
@@ -13,7 +17,6 @@ mod staging;
 mod tests;
 mod thin;
 
-pub use faults::{FaultKind, OpFault, ScriptFault};
 pub use names::{Name, legal_name};
 pub use printed::print_rows;
 pub use rows::{RowsRefused, parse_rows};

@@ -4,6 +4,7 @@ ghost use Rattle.mit_engine.specs.Names.{IsLegal};
 ghost use Rattle.mit_engine.specs.Thin.{IsFormed};
 
 use super::*;
+use mit_ops::{FaultKind, ScriptFault};
 use mit_rows::{Bag, Row, Text, Value};
 use mit_world::{Files, MemFolder, MemOutbox, OutsideStop};
 use std::alloc::{AllocError, Global};
@@ -337,7 +338,30 @@ fn folder_of(
 }
 
 /// A run over a file `in` of the rows 2 and 1 writes `out` alone, if anything, and asks once for each file.
-fn leaves(
+fn leaves<S: Schedule>(
+    rt: &impl Abort,
+    alloc: Global,
+    script: &Thin,
+    schedule: &mut S,
+    out: Option<&[u8]>,
+    actions: u64,
+) -> Result<(), AllocError>
+    requires { IsFormed script.now }
+{
+    let mut folder = folder_of(alloc, "in", b"2\n1\n", &[])?;
+    let Ok(done) = run_thin(alloc, script, &mut folder, schedule) else {
+        panic!(rt; "the run stopped");
+    };
+    let files = u64::from(out.is_some());
+    assert_eq!(rt; done.files.get("out"), out);
+    assert_eq!(rt; done.files.len(), files);
+    assert_eq!(rt; (done.blocks, done.actions), (1, actions));
+    assert_eq!(rt; folder.calls(), files);
+    Ok(())
+}
+
+/// The same under the seeds 0 to 9, with one pick for each action.
+fn leaves_always(
     rt: &impl Abort,
     alloc: Global,
     script: &Thin,
@@ -346,38 +370,22 @@ fn leaves(
 ) -> Result<(), AllocError>
     requires { IsFormed script.now }
 {
-    let mut folder = folder_of(alloc, "in", b"2\n1\n", &[])?;
-    let mut schedule = Seeded::new(alloc, 0);
-    let Ok(done) = run_thin(alloc, script, &mut folder, &mut schedule) else {
-        panic!(rt; "the run stopped");
-    };
-    let files = u64::from(out.is_some());
-    assert_eq!(rt; done.files.get("out"), out);
-    assert_eq!(rt; done.files.len(), files);
-    assert_eq!(rt; (done.blocks, done.actions), (1, actions));
-    assert_eq!(rt; folder.calls(), files);
-    assert!(rt; schedule.log().is_empty());
+    for seed in 0..10 {
+        let mut schedule = Seeded::new(alloc, seed);
+        leaves(rt, alloc, script, &mut schedule, out, actions)?;
+        assert_eq!(rt; schedule.log().len() as u64, actions);
+    }
     Ok(())
 }
 
 #[test]
-fn a_run_leaves_its_files(rt: HostRuntime) -> Result<(), Fail> {
+fn a_run_leaves_its_files_whatever_the_picks(rt: HostRuntime) -> Result<(), Fail> {
     let alloc = rt.alloc();
-    leaves(&rt, alloc, &empty(alloc), None, 0)?;
-    leaves(
-        &rt,
-        alloc,
-        &doubling(&rt, alloc)?,
-        Some(b"1\n1\n2\n2\n"),
-        10,
-    )?;
-    leaves(
-        &rt,
-        alloc,
-        &writing_twice(&rt, alloc, "in")?,
-        Some(b"1\n2\n"),
-        15,
-    )?;
+    leaves_always(&rt, alloc, &empty(alloc), None, 0)?;
+    let doubled = Some(b"1\n1\n2\n2\n".as_slice());
+    leaves_always(&rt, alloc, &doubling(&rt, alloc)?, doubled, 10)?;
+    let last = Some(b"1\n2\n".as_slice());
+    leaves_always(&rt, alloc, &writing_twice(&rt, alloc, "in")?, last, 15)?;
     Ok(())
 }
 
@@ -406,6 +414,7 @@ fn a_run_tells_why_it_stops(rt: HostRuntime) -> Result<(), Fail> {
         let mut schedule = Seeded::new(alloc, 0);
         let result = run_thin(alloc, &script, &mut folder, &mut schedule);
         assert_eq!(rt; result.err(), Some(stop));
+        assert!(rt; schedule.log().len() <= 15);
     }
     Ok(())
 }

@@ -1,24 +1,20 @@
 //! Thin scripts, their statements, and the job that runs them.
-ghost use Rattle.std.specs.Prelude.{◌≡◌, ◌≢◌, ◌≤◌, ◌<◌, ◌∷◌, [], Ok, Err, IfOk, IfErr, IfSome, OnOk, OnErr, length, vec_len};
-ghost use Rattle.std.specs.FinMap as fin;
-ghost use Rattle.mit_rows.specs.Bags.{bag_sum};
+ghost use Rattle.std.specs.Prelude.{◌≡◌, ◌≤◌, ◌+◌, IfErr, IfOk, IfSome, OnOk};
 ghost use Rattle.mit_world.specs.Files.{FileMap};
 ghost use Rattle.mit_world.specs.Outside.{Rose};
-ghost use Rattle.mit_engine.specs.Names.{IsLegal};
-ghost use Rattle.mit_engine.specs.Printed.{bag_text};
-ghost use Rattle.mit_engine.specs.Rows.{bag_of_rows, read_bag, rows_of};
+ghost use Rattle.mit_engine.specs.Job.{AnswersOver, IfFolderEnds, IfFolderStops};
+ghost use Rattle.mit_engine.specs.Picks.{GrowsBy, GrowsWithin};
+ghost use Rattle.mit_engine.specs.Running.{Stands, left, verdict_from};
 ghost use Rattle.mit_engine.specs.Shelf.{Agrees};
-ghost use Rattle.mit_engine.specs.Thin.{IsFormed, actions_of, assign, bag_in, edges_of};
-ghost use Rattle.mit_engine.specs.declared.thin.StepStop.TheVariants as halt;
-ghost use Rattle.mit_engine.specs.Job.{ActsAs, AnswersOver, Fits, GivesBag, IfFolderHalts, IfFolderStops, after_step};
+ghost use Rattle.mit_engine.specs.Thin.{IsFormed, actions_of};
+ghost use Rattle.mit_engine.specs.declared.job.Verdict.TheVariants as verdict;
+ghost use Rattle.mit_engine.specs.declared.thin.Stop.TheVariants as ending;
 
-use crate::faults::{FaultKind, ScriptFault};
+use crate::job::{Job, Verdict};
 use crate::names::Name;
-use crate::printed::print_rows;
-use crate::rows::{RowsRefused, parse_rows};
+use crate::operators::files_of;
 use crate::schedule::Schedule;
-use crate::shelf::{FetchStop, Shelf};
-use mit_rows::Bag;
+use mit_ops::ScriptFault;
 use mit_world::{Files, Folder};
 use std::alloc::{AllocError, Global};
 use std::marker::Model;
@@ -98,23 +94,16 @@ pub enum Stop {
     NoMemory,
 }
 
-// Why a statement was not done.
-#[derive(Drop)]
-enum StepStop {
-    Fault(FaultKind),
-    Folder,
-    NoMemory,
+impl From<AllocError> for Stop {
+    ghost from_gives = { λ _ stop. stop ≡ ending.NoMemory };
+
+    fn from(_: AllocError) -> Stop {
+        Stop::NoMemory
+    }
 }
 
-// What the job holds: what it read, the bag of each variable at its number, and the files that it wrote.
-#[derive(Drop)]
-struct Job {
-    shelf: Shelf,
-    store: Vec<Bag>,
-    written: Files,
-}
-
-/// Runs a thin script, its statements in the order of the text. Each file name is read at most once.
+/// Runs a thin script as a job of one partition: each action is picked by the schedule from those on offer. Each file
+/// name is read at most once.
 pub fn run_thin<F: Folder, S: Schedule>(
     alloc: Global,
     script: &Thin,
@@ -123,202 +112,72 @@ pub fn run_thin<F: Folder, S: Schedule>(
 ) -> Result<Done, Stop>
     requires { IsFormed script.now }
 
-    // The answer is the interpreter's: its files, blocks and actions, or its first fault.
+    // Whatever the picks are, the answer is the interpreter's: its files, blocks and actions, or its first fault.
     ensures answer { AnswersOver script.now (F.files folder.old) result }
     ensures failed { IfErr result (λ stop. IfFolderStops stop (Rose (F.faults folder.old) (F.faults folder.new))) }
 
-    // What the folder tells stays, and so does the log of the schedule, which is not asked.
+    // The log grows by one pick for each action, and never by more than the actions of a job that comes to its end.
+    ensures picked { IfOk result (λ done. GrowsBy done.actions (S.log schedule.old) (S.log schedule.new)) }
+    ensures bounded { GrowsWithin (actions_of script.now) (S.log schedule.old) (S.log schedule.new) }
+
+    // What the folder tells stays.
     ensures told { F.files folder.new ≡ F.files folder.old }
     ensures count { F.faults folder.old ≤ F.faults folder.new }
-    ensures log { S.log schedule.new ≡ S.log schedule.old }
 {
-    let _ = schedule;
     let steps = script.steps();
-    let mut job = Job {
-        shelf: Shelf::new(alloc),
-        store: Vec::new(alloc),
-        written: Files::new(alloc),
+    let Ok(mut job) = Job::of(alloc, steps) else {
+        return Err(Stop::NoMemory);
     };
-    for (at, step) in steps.iter().enumerate() {
-        match act(alloc, &mut job, step, folder) {
-            Ok(()) => {}
-            Err(StepStop::Fault(kind)) => {
+    let mut actions = 0;
+    'turns: loop {
+        match job.verdict() {
+            Verdict::Running => match turn(alloc, &mut job, steps, folder, schedule) {
+                Ok(()) => actions += 1,
+                Err(stop) => return Err(stop),
+            },
+            Verdict::Complete => {
+                let Ok(files) = files_of(alloc, steps, &job.operators) else {
+                    return Err(Stop::NoMemory);
+                };
+                return Ok(Done {
+                    files,
+                    blocks: 1,
+                    actions,
+                });
+            }
+            Verdict::Fault(at, kind) => {
                 return Err(Stop::Fault(ScriptFault {
                     statement: at as u32 + 1,
                     decisions: 0,
                     kind,
                 }));
             }
-            Err(StepStop::Folder) => return Err(Stop::Folder),
-            Err(StepStop::NoMemory) => return Err(Stop::NoMemory),
         }
     }
-    let Job {
-        shelf: _,
-        store: _,
-        written,
-    } = job;
-    Ok(Done {
-        files: written,
-        blocks: 1,
-        actions: count_actions(steps),
-    })
 }
 
-// Does one statement.
-fn act<F: Folder>(
+// Does the action that the schedule picks from the offer.
+fn turn<F: Folder, S: Schedule>(
     alloc: Global,
     job: &mut Job,
-    step: &ThinStep,
+    steps: &[ThinStep],
     folder: &mut F,
-) -> Result<(), StepStop>
-    requires { Fits (vec_len job.old.store) step.now }
-    ensures acts { (files : FileMap) → Agrees job.new.shelf files
-        → ActsAs (after_step files job.old.store.items job.old.written step.now) job.new.store.items job.new.written result }
+    schedule: &mut S,
+) -> Result<(), Stop>
+    requires formed { IsFormed steps.now }
+    requires stands { Stands steps.now job.old.shelf job.old.path job.old.learned job.old.operators.items }
+    requires running { verdict_from 0 job.old.operators.items ≡ verdict.Running }
+    ensures stands { OnOk result (Stands steps.now job.new.shelf job.new.path job.new.learned job.new.operators.items) }
+    ensures counted { OnOk result (left job.new.path job.new.operators.items + 1 ≡ left job.old.path job.old.operators.items) }
+    ensures picked { OnOk result (GrowsBy 1 (S.log schedule.old) (S.log schedule.new)) }
+    ensures bounded { GrowsWithin 1 (S.log schedule.old) (S.log schedule.new) }
     ensures grows { (files : FileMap) → Agrees job.new.shelf files → Agrees job.old.shelf files }
     ensures agrees { IfSome (F.files folder.old) (λ files. Agrees job.old.shelf files → Agrees job.new.shelf files) }
-    ensures failed { IfErr result (λ stop. IfFolderHalts stop (Rose (F.faults folder.old) (F.faults folder.new))) }
+    ensures failed { IfErr result (λ stop. IfFolderEnds stop (Rose (F.faults folder.old) (F.faults folder.new))) }
     ensures told { F.files folder.new ≡ F.files folder.old }
     ensures count { F.faults folder.old ≤ F.faults folder.new }
 {
-    match step {
-        ThinStep::Read {
-            target,
-            name,
-            columns,
-        } => {
-            let bag = read(alloc, &mut job.shelf, name, *columns, folder)?;
-            put(&mut job.store, *target, bag)?;
-            Ok(())
-        }
-        ThinStep::Union {
-            target,
-            left,
-            right,
-        } => {
-            let bag = sum(alloc, &job.store, *left, *right)?;
-            put(&mut job.store, *target, bag)?;
-            Ok(())
-        }
-        ThinStep::Write { source, name } => {
-            write(alloc, &mut job.written, name, &job.store[*source as usize])?;
-            Ok(())
-        }
-    }
-}
-
-// Reads the file of this name as a bag.
-fn read<F: Folder>(
-    alloc: Global,
-    shelf: &mut Shelf,
-    name: &Name,
-    columns: u8,
-    folder: &mut F,
-) -> Result<Bag, StepStop>
-    requires legal { IsLegal name.now }
-    requires few { columns ≤ 16 }
-    ensures bag { (files : FileMap) → Agrees shelf.new files → GivesBag (read_bag files name.now columns) result }
-    ensures grows { (files : FileMap) → Agrees shelf.new files → Agrees shelf.old files }
-    ensures agrees { IfSome (F.files folder.old) (λ files. Agrees shelf.old files → Agrees shelf.new files) }
-    ensures failed { IfErr result (λ stop. IfFolderHalts stop (Rose (F.faults folder.old) (F.faults folder.new))) }
-    ensures told { F.files folder.new ≡ F.files folder.old }
-    ensures count { F.faults folder.old ≤ F.faults folder.new }
-{
-    match shelf.fetch(name.as_str(), folder) {
-        Ok(()) => match shelf.text(name.as_str()) {
-            Some(bytes) => bag_of(alloc, bytes, columns),
-            None => Err(StepStop::Fault(FaultKind::NoFile)),
-        },
-        Err(FetchStop::BadName) => Err(StepStop::Fault(FaultKind::BadName)),
-        Err(FetchStop::NoFile) => Err(StepStop::Fault(FaultKind::NoFile)),
-        Err(FetchStop::Folder) => Err(StepStop::Folder),
-        Err(FetchStop::NoMemory) => Err(StepStop::NoMemory),
-    }
-}
-
-// The bag of a file's rows.
-fn bag_of(alloc: Global, bytes: &[u8], columns: u8) -> Result<Bag, StepStop>
-    requires { columns ≤ 16 }
-    ensures bag { GivesBag (bag_of_rows (rows_of bytes.now columns)) result }
-    ensures own { IfErr result (λ stop. stop ≢ StepStop.Folder) }
-{
-    match parse_rows(alloc, bytes, columns) {
-        Ok(rows) => match Bag::from_rows(rows) {
-            Ok(bag) => Ok(bag),
-            Err(_) => Err(StepStop::NoMemory),
-        },
-        Err(RowsRefused::BadRow(number)) => Err(StepStop::Fault(FaultKind::BadRow(number))),
-        Err(RowsRefused::NoMemory) => Err(StepStop::NoMemory),
-    }
-}
-
-// The sum of two variables' bags.
-fn sum(alloc: Global, store: &[Bag], left: u32, right: u32) -> Result<Bag, AllocError>
-    requires left { left < length store.now }
-    requires right { right < length store.now }
-    ensures { IfOk result (λ bag. bag ≡ bag_sum (bag_in store.now left ∷ bag_in store.now right ∷ [])) }
-{
-    let left = store[left as usize].copy(alloc)?;
-    let right = store[right as usize].copy(alloc)?;
-    let mut bags = Vec::with_capacity(alloc, 2)?;
-    bags.push(left)?;
-    bags.push(right)?;
-    Bag::join_all(alloc, bags)
-}
-
-// Puts a bag in the place of its variable, which is the next new one or has one.
-fn put(store: &mut Vec<Bag>, target: u32, bag: Bag) -> Result<(), AllocError>
-    requires { target ≤ vec_len store.old }
-    ensures ok { OnOk result (store.new.items ≡ assign store.old.items target bag) }
-{
-    let place = target as usize;
-    if place < store.len() {
-        store[place] = bag;
-    } else {
-        store.push(bag)?;
-    }
-    Ok(())
-}
-
-// Writes the text of a bag as the file of this name.
-fn write(alloc: Global, written: &mut Files, name: &Name, bag: &Bag) -> Result<(), AllocError>
-    ensures ok { OnOk result (written.new ≡ fin.insert written.old name.now (bag_text bag.now)) }
-{
-    let text = print_rows(alloc, bag)?;
-    written.put(name.as_str(), &text)
-}
-
-impl From<AllocError> for StepStop {
-    ghost from_gives = { λ _ stop. stop ≡ halt.NoMemory };
-
-    fn from(_: AllocError) -> StepStop {
-        StepStop::NoMemory
-    }
-}
-
-// The actions of a job of these statements.
-fn count_actions(steps: &[ThinStep]) -> u64
-    requires { length steps.now ≤ 1000 }
-    ensures { result ≡ actions_of steps.now }
-{
-    if steps.is_empty() {
-        return 0;
-    }
-    let mut actions = 1;
-    for step in steps {
-        actions += 2 + count_edges(step);
-    }
-    actions
-}
-
-// The edges of a statement: one for each argument.
-fn count_edges(step: &ThinStep) -> u64
-    ensures edges { result ≡ edges_of step.now }
-    ensures few { result ≤ 2 }
-{
-    match step {
-        ThinStep::Read { .. } => 0,
-        ThinStep::Union { .. } => 2,
-        ThinStep::Write { .. } => 1,
-    }
+    let offer = job.offer(alloc)?;
+    let chosen = schedule.pick(offer.len() as u64)?;
+    job.act(alloc, offer[chosen as usize], steps, folder)
 }

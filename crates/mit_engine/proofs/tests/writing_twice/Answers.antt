@@ -1,7 +1,6 @@
-use Rattle.std.proofs.Common.{◌≡◌, ℕ, List, [], ◌∷◌, inl, refl, rules}
+use Rattle.std.proofs.Common.{ℕ, List, [], ◌∷◌, inl, refl, rules}
 use Rattle.mit_engine.specs.Names.{IsLegal}
-use Rattle.mit_engine.specs.Thin.{FormedFrom, IsFormed}
-use Rattle.mit_engine.specs.declared.thin.ThinStep.{ThinStep}
+use Rattle.mit_engine.specs.Thin.{FormedFrom}
 use Rattle.mit_engine.specs.declared.thin.ThinStep.TheVariants as step
 use Rattle.mit_engine.proofs.tests.writing_twice.Goals as goal
 

@@ -1,53 +1,92 @@
-use Rattle.std.proofs.Common.{◌≡◌, ◌∙◌, ℕ, arith, length, rules, subst, refl, vec_len}
-use Rattle.mit_engine.specs.Job.{Fits}
-use Rattle.mit_engine.proofs.JobLemmas.{begins, done_answers, done_stands, fault_answers, fits, unsaid}
+use Rattle.std.proofs.Common.{◌∙◌, ◌≤◌, ◌+◌, ap, arith, refl, sym}
+use Rattle.mit_world.specs.Outside.{Rose}
+use Rattle.mit_engine.specs.Operators.{writes_of}
+use Rattle.mit_engine.specs.Printed.{published}
+use Rattle.mit_engine.specs.Thin.{actions_of}
+use Rattle.mit_engine.proofs.DeliveryLemmas.{starts}
+use Rattle.mit_engine.proofs.RunLemmas.{complete_all, complete_answers, fault_answers, fault_place, few, first_counted, first_unsaid, formed_again, grows_more, grows_none, memory_unsaid, running_statements, running_within, told_first, told_more, unsaid, within_more}
 use Rattle.mit_engine.proofs.thin.run_thin.Goals as goal
 
-pub loop-at-init : goal.loop-at-init
-loop-at-init g c = record {
-  stands = begins c.steps-steps.result.now c.args.script.now (g.F.Folder.files c.args.folder.now) c.new.result c.new-2.result.items c.new-3.result
-      c.steps-steps.ensures c.new.ensures c.new-2.ensures.items c.new-3.ensures c.requires;
+pub returns-in_default-clause-answer : goal.returns-in_default-clause-answer
+returns-in_default-clause-answer g c = first_unsaid c.args.script.now (g.F.Folder.files c.args.folder.now)
+
+pub turns-init : goal.turns-init
+turns-init g c = record {
+  stands = starts c.steps-steps.result.now c.in-Ok.job.shelf c.in-Ok.job.path c.in-Ok.job.learned c.in-Ok.job.operators.items
+      c.in-Ok.ensures.path.0 c.in-Ok.ensures.path.1 c.in-Ok.ensures.operators;
+  agrees = told_first (g.F.Folder.files c.args.folder.now) c.in-Ok.job.shelf c.in-Ok.ensures.shelf;
   told = refl;
   count = omega arith;
+  picked = grows_none (g.S.Schedule.log c.args.schedule.now) (g.S.Schedule.log c.args.schedule.now) refl;
+  counted = first_counted c.steps-steps.result.now c.in-Ok.job.path c.in-Ok.job.operators.items c.in-Ok.ensures.path.0 c.in-Ok.ensures.operators;
+  idle = λ none. refl;
 }
 
-pub act-requires : goal.act-requires
-act-requires g c =
-    let sized : length c.loop-at.job.store.items ≡ vec_len c.loop-at.job.store = search rules in
-    subst (λ (n : ℕ). Fits n c.index-steps-at.result) sized
-    (fits c.steps-steps.result.now (g.F.Folder.files c.args.folder.now) c.loop-at.at c.loop-at.job.shelf c.loop-at.job.store.items c.loop-at.job.written
-    c.index-steps-at.result c.loop-at-test.true c.index-steps-at.is c.loop-at.invariant.stands)
-
-pub returns-in-Err-Fault-clause-answer : goal.returns-in-Err-Fault-clause-answer
-returns-in-Err-Fault-clause-answer g c =
-    rw c.in-Err-Fault.field-0-is (fault_answers c.steps-steps.result.now c.args.script.now (g.F.Folder.files c.args.folder.now) (g.F.Folder.files c.loop-at.folder) c.loop-at.at
-    c.loop-at.job.shelf c.loop-at.job.store.items c.loop-at.job.written c.index-steps-at.result
-    c.act.new.job.shelf c.act.new.job.store.items c.act.new.job.written c.in-Err-Fault.field-0 _ c.steps-steps.ensures c.loop-at.invariant.told
-    c.in-Err-Fault.field-0-is c.loop-at-test.true c.index-steps-at.is c.loop-at.invariant.stands c.in-Err-Fault.ensures.acts c.in-Err-Fault.ensures.grows c.in-Err-Fault.ensures.agrees)
-
-pub returns-in-Err-Folder-clause-answer : goal.returns-in-Err-Folder-clause-answer
-returns-in-Err-Folder-clause-answer g c =
-    let some = unsaid c.steps-steps.result.now (g.F.Folder.files c.args.folder.now) c.loop-at.at c.loop-at.job.shelf c.loop-at.job.store.items c.loop-at.job.written
-    c.loop-at.invariant.stands in
-    (some.0, some.1, tt)
-
-pub returns-in-Err-NoMemory-clause-answer : goal.returns-in-Err-NoMemory-clause-answer
-returns-in-Err-NoMemory-clause-answer g c =
-    let some = unsaid c.steps-steps.result.now (g.F.Folder.files c.args.folder.now) c.loop-at.at c.loop-at.job.shelf c.loop-at.job.store.items c.loop-at.job.written
-    c.loop-at.invariant.stands in
-    (some.0, some.1, tt)
-
-pub loop-at-preserved : goal.loop-at-preserved
-loop-at-preserved g c = record {
-  stands = done_stands c.steps-steps.result.now (g.F.Folder.files c.args.folder.now) (g.F.Folder.files c.loop-at.folder) c.loop-at.at
-      c.loop-at.job.shelf c.loop-at.job.store.items c.loop-at.job.written c.index-steps-at.result
-      c.act.new.job.shelf c.act.new.job.store.items c.act.new.job.written c.in-Ok.field-0 c.loop-at.invariant.told
-      c.loop-at-test.true c.index-steps-at.is c.loop-at.invariant.stands c.in-Ok.ensures.acts c.in-Ok.ensures.grows c.in-Ok.ensures.agrees;
-  told = c.act.ensures.told ∙ c.loop-at.invariant.told;
-  count = omega (arith, c.act.ensures.count, c.loop-at.invariant.count);
+pub turns-preserved : goal.turns-preserved
+turns-preserved g c = record {
+  stands = c.in-Ok-turn.ensures.stands;
+  agrees = told_more (g.F.Folder.files c.args.folder.now) (g.F.Folder.files c.turns.folder) c.turns.job.shelf c.turn.new.job.shelf c.turns.invariant.told c.turns.invariant.agrees c.turn.ensures.agrees;
+  told = c.turn.ensures.told ∙ c.turns.invariant.told;
+  count = omega (arith, c.turn.ensures.count, c.turns.invariant.count);
+  picked = grows_more c.turns.actions 1 (g.S.Schedule.log c.args.schedule.now) (g.S.Schedule.log c.turns.schedule) (g.S.Schedule.log c.turn.new.schedule)
+      c.turns.invariant.picked c.in-Ok-turn.ensures.picked;
+  counted = omega (arith, c.in-Ok-turn.ensures.counted, c.turns.invariant.counted);
+  idle = λ none. absurd (omega (arith, none, running_statements c.steps-steps.result.now c.turns.job.shelf c.turns.job.path c.turns.job.learned c.turns.job.operators.items c.turns.invariant.stands (sym c.in-Running.ensures)));
 }
 
-pub returns-clause-answer : goal.returns-clause-answer
-returns-clause-answer g c =
-    done_answers c.steps-steps.result.now c.args.script.now (g.F.Folder.files c.args.folder.now) c.loop-at.at c.loop-at.job.shelf c.loop-at.job.store.items
-    c.loop-at.job.written c.count_actions.result c.steps-steps.ensures (omega arith) c.loop-at.invariant.stands c.count_actions.ensures
+pub overflow_add-actions : goal.overflow_add-actions
+overflow_add-actions g c =
+    omega (
+      arith,
+      running_within c.steps-steps.result.now c.turns.job.shelf c.turns.job.path c.turns.job.learned c.turns.job.operators.items c.turns.actions c.turns.invariant.stands (sym c.in-Running.ensures) c.turns.invariant.counted,
+      few c.steps-steps.result.now (formed_again c.steps-steps.result.now c.args.script.now c.steps-steps.ensures c.requires),
+    )
+
+pub returns-in-Err-clause-answer : goal.returns-in-Err-clause-answer
+returns-in-Err-clause-answer g c =
+    unsaid c.args.script.now (g.F.Folder.files c.args.folder.now) c.turns.job.shelf c.in-Err.stop (Rose (g.F.Folder.faults c.turns.folder) (g.F.Folder.faults c.turn.new.folder))
+    c.turns.invariant.agrees c.in-Err.ensures.failed
+
+pub returns-in-Err-clause-bounded : goal.returns-in-Err-clause-bounded
+returns-in-Err-clause-bounded g c =
+    let within : c.turns.actions + 1 ≤ actions_of c.args.script.now =
+    omega (
+      arith,
+      running_within c.steps-steps.result.now c.turns.job.shelf c.turns.job.path c.turns.job.learned c.turns.job.operators.items c.turns.actions c.turns.invariant.stands (sym c.in-Running.ensures) c.turns.invariant.counted,
+      ap actions_of c.steps-steps.ensures,
+    ) in
+    within_more c.turns.actions (actions_of c.args.script.now) (g.S.Schedule.log c.args.schedule.now) (g.S.Schedule.log c.turns.schedule)
+    (g.S.Schedule.log c.turn.new.schedule) c.turns.invariant.picked c.turn.ensures.bounded within
+
+pub returns-in_default-files_of-clause-answer : goal.returns-in_default-files_of-clause-answer
+returns-in_default-files_of-clause-answer g c =
+    memory_unsaid c.args.script.now (g.F.Folder.files c.args.folder.now) c.turns.job.shelf c.turns.invariant.agrees
+
+pub returns-in-Complete-clause-answer : goal.returns-in-Complete-clause-answer
+returns-in-Complete-clause-answer g c =
+    let complete = sym c.in-Complete.ensures in
+    complete_answers c.steps-steps.result.now c.args.script.now (g.F.Folder.files c.args.folder.now) c.turns.job.shelf c.turns.job.path c.turns.job.learned c.turns.job.operators.items c.turns.actions
+    c.in-Ok-files_of.files c.steps-steps.ensures c.requires c.turns.invariant.agrees c.turns.invariant.stands complete
+    (c.in-Ok-files_of.ensures ∙ ap (λ operators. published (writes_of c.steps-steps.result.now operators)) c.deref.ensures.value)
+    (complete_all c.steps-steps.result.now c.turns.job.shelf c.turns.job.path c.turns.job.learned c.turns.job.operators.items c.turns.actions c.turns.invariant.stands complete c.turns.invariant.counted c.turns.invariant.idle)
+
+pub overflow_cast-result : goal.overflow_cast-result
+overflow_cast-result g c =
+    omega (
+      arith,
+      fault_place c.steps-steps.result.now c.args.script.now c.turns.job.shelf c.turns.job.path c.turns.job.learned c.turns.job.operators.items c.in-Fault.at c.in-Fault.kind
+          c.steps-steps.ensures c.requires c.turns.invariant.stands (sym c.in-Fault.ensures),
+    )
+
+pub overflow_add-result : goal.overflow_add-result
+overflow_add-result g c =
+    omega (
+      arith,
+      fault_place c.steps-steps.result.now c.args.script.now c.turns.job.shelf c.turns.job.path c.turns.job.learned c.turns.job.operators.items c.in-Fault.at c.in-Fault.kind
+          c.steps-steps.ensures c.requires c.turns.invariant.stands (sym c.in-Fault.ensures),
+    )
+
+pub returns-in-Fault-clause-answer : goal.returns-in-Fault-clause-answer
+returns-in-Fault-clause-answer g c =
+    fault_answers c.steps-steps.result.now c.args.script.now (g.F.Folder.files c.args.folder.now) c.turns.job.shelf c.turns.job.path c.turns.job.learned c.turns.job.operators.items c.in-Fault.at c.in-Fault.kind
+    c.steps-steps.ensures c.requires c.turns.invariant.agrees c.turns.invariant.stands (sym c.in-Fault.ensures)

@@ -1,0 +1,202 @@
+use crate::call::attempt;
+use crate::lines::refusal;
+use mit_engine::{Pick, Schedule, Seeded};
+use mit_world::{Files, MemConsole, MemFolder, MemOutbox};
+use std::alloc::{AllocError, Global};
+use std::fmt::Write;
+use std::marker::Model;
+use std::process::Abort;
+use std::test::Fail;
+
+/// A schedule that takes the first, the last or the middle entry of each offer. Its pick of the number `fails`, counted
+/// from 1, finds no memory.
+#[derive(Drop)]
+struct Steady {
+    end: End,
+    fails: u64,
+    log: Vec<Pick>,
+}
+
+#[derive(Clone, Copy, Debug, PartialEq, Eq)]
+enum End {
+    First,
+    Last,
+    Middle,
+}
+
+const ENDS: [End; 3] = [End::First, End::Last, End::Middle];
+
+impl Steady {
+    fn new(alloc: Global, end: End, fails: u64) -> Steady {
+        Steady {
+            end,
+            fails,
+            log: Vec::new(alloc),
+        }
+    }
+}
+
+impl Model for Steady {
+    ghost use Rattle.std.specs.Prelude.{List};
+    ghost use Rattle.mit_engine.specs.declared.schedule.Pick.{Pick};
+
+    ghost Value = { List Pick };
+
+    ghost view = { λ s. s.log.items };
+}
+
+impl Schedule for Steady {
+    ghost log = { λ s. s };
+
+    fn pick(&mut self, offered: u64) -> Result<u64, AllocError> {
+        if self.log.len() as u64 + 1 == self.fails {
+            return Err(AllocError);
+        }
+        let chosen = match self.end {
+            End::First => 0,
+            End::Last => offered - 1,
+            End::Middle => offered / 2,
+        };
+        self.log.reserve(1)?;
+        self.log.push_reserved(Pick { offered, chosen });
+        Ok(chosen)
+    }
+}
+
+/// What a run leaves: its status, the published files or else the line that tells why there are none, and how often
+/// the outbox was called.
+#[derive(Drop)]
+struct Left {
+    status: u8,
+    shown: String,
+    outbox_calls: u64,
+}
+
+/// Runs a script under this schedule, over the files `in`, of two rows, `pairs`, of one, and `bad`, of none that fits.
+fn run_under<S: Schedule>(alloc: Global, script: &[u8], schedule: &mut S) -> Result<Left, Fail> {
+    let mut files = Files::new(alloc);
+    files.put("s", script)?;
+    files.put("in", b"2\n1\n")?;
+    files.put("pairs", b"1,2\n")?;
+    files.put("bad", b"x\n")?;
+    let mut folder = MemFolder::new(files, Vec::new(alloc));
+    let mut outbox = MemOutbox::new(alloc, Vec::new(alloc));
+    let mut console = MemConsole::new(alloc, Vec::new(alloc));
+    let (status, line) = match attempt(
+        alloc,
+        "s",
+        schedule,
+        &mut folder,
+        &mut outbox,
+        &mut console,
+    ) {
+        Ok(()) => (
+            0,
+            String::from_str(alloc, str::from_utf8(console.bytes())?)?,
+        ),
+        Err(refused) => (refused.status(), refusal(alloc, "s", &refused)?),
+    };
+    let mut shown = line;
+    if let Some(published) = outbox.published() {
+        for place in 0..published.len() {
+            let bytes = str::from_utf8(published.bytes_at(place))?;
+            write!(shown, "{}={bytes}", published.name_at(place))?;
+        }
+    }
+    Ok(Left {
+        status,
+        shown,
+        outbox_calls: outbox.calls(),
+    })
+}
+
+/// A run of this script leaves this under the seeds 0 to 9, and where always the first, the last or the middle entry of
+/// the offer is taken.
+fn leaves_always(rt: &impl Abort, alloc: Global, script: &[u8], shown: &str) -> Result<(), Fail> {
+    for seed in 0..10 {
+        let mut schedule = Seeded::new(alloc, seed);
+        let left = run_under(alloc, script, &mut schedule)?;
+        assert_eq!(rt; left.shown.as_str(), shown);
+    }
+    for end in ENDS {
+        let mut schedule = Steady::new(alloc, end, 0);
+        let left = run_under(alloc, script, &mut schedule)?;
+        assert_eq!(rt; left.shown.as_str(), shown);
+    }
+    Ok(())
+}
+
+/// The union of a file with itself.
+const TWICE: &[u8] = b"a = read \"in\" (int); b = union a, a; write b to \"out\";";
+
+/// Twenty statements, three of which write `out`.
+const TWENTY: &[u8] = b"
+    a = read \"in\" (int);
+    b = read \"pairs\" (int, int);
+    c = union a, a;
+    write a to \"out\";
+    d = union c, a;
+    write b to \"p\";
+    e = union d, d;
+    write c to \"out\";
+    a = union a, c;
+    b = union b, b;
+    f = read \"in\" (int);
+    write f to \"f\";
+    g = union e, f;
+    h = union a, g;
+    write h to \"h\";
+    b = union b, b;
+    write b to \"p\";
+    d = union f, f;
+    write d to \"out\";
+    write e to \"e\";
+";
+
+#[test]
+fn the_order_of_delivery_changes_no_file(rt: HostRuntime) -> Result<(), Fail> {
+    let alloc = rt.alloc();
+    leaves_always(
+        &rt,
+        alloc,
+        TWICE,
+        "files 1, blocks 1, actions 10\nout=1\n1\n2\n2\n",
+    )?;
+    leaves_always(
+        &rt,
+        alloc,
+        TWENTY,
+        "files 5, blocks 1, actions 67\ne=1\n1\n1\n1\n1\n1\n2\n2\n2\n2\n2\n2\nf=1\n2\nh=1\n1\n1\n1\n1\n1\n1\n1\n1\n1\n\
+         2\n2\n2\n2\n2\n2\n2\n2\n2\n2\nout=1\n1\n2\n2\np=1,2\n1,2\n1,2\n1,2\n",
+    )
+}
+
+// No write depends on the reads at fault.
+#[test]
+fn the_first_fault_in_the_text_is_told_whatever_is_heard_first(
+    rt: HostRuntime,
+) -> Result<(), Fail> {
+    leaves_always(
+        &rt,
+        rt.alloc(),
+        b"a = read \"in\" (int); b = read \"none\" (int); c = read \"bad\" (int); write a to \"out\";",
+        "fault: statement 2, decisions 0, no such file\n",
+    )
+}
+
+// The picks of a job of ten actions find no memory in turn; the eleventh never comes.
+#[test]
+fn want_of_memory_in_a_pick_publishes_nothing(rt: HostRuntime) -> Result<(), Fail> {
+    let alloc = rt.alloc();
+    for fails in 1..12 {
+        let mut schedule = Steady::new(alloc, End::Middle, fails);
+        let left = run_under(alloc, TWICE, &mut schedule)?;
+        if fails < 11 {
+            assert_eq!(rt; (left.status, left.outbox_calls), (7, 0));
+            assert_eq!(rt; left.shown.as_str(), "out of memory\n");
+        } else {
+            assert_eq!(rt; (left.status, left.outbox_calls), (0, 2));
+        }
+    }
+    Ok(())
+}

@@ -1,0 +1,7 @@
+use Rattle.std.proofs.Common.{◌≡◌, ◌++◌, drop}
+use Rattle.mit_engine.specs.Running.{polls_from}
+use Rattle.mit_engine.proofs.job.offer_polls.Given as goal
+
+-- the offer so far, with that of the operators that are left, is the whole
+abbrev pub invariant-loop-at : goal.invariant-loop-at
+invariant-loop-at l = l.offer.items ++ polls_from l.at (drop l.at l.operators) ≡ l.initial.offer.items ++ polls_from 0 l.operators

@@ -1,0 +1,154 @@
+-- The running job: what is on offer, when it has ended, and what its channels hold at each moment.
+use Rattle.std.specs.Prelude.{◌≡◌, ◌<◌, ⊤, ◌⊎◌, ℕ, ◌+◌, List, [], ◌∷◌, ◌++◌, length, map, slice_get, sum_by, Bool, true, false, if◌then◌else◌, Option, Some, None, Ok, Err}
+use Rattle.mit_rows.specs.Bags.{BagOf}
+use Rattle.mit_world.specs.Files.{FileMap}
+use Rattle.mit_engine.specs.Shelf.{Agrees, Kept}
+use Rattle.mit_engine.specs.Operators.{can_poll, operator_left, sources, whole}
+use Rattle.mit_ops.specs.declared.faults.FaultKind.{FaultKind}
+use Rattle.mit_engine.specs.declared.edges.Edge.{Edge}
+use Rattle.mit_engine.specs.declared.edges.Received.{Received}
+use Rattle.mit_engine.specs.declared.edges.Received.TheVariants.{Awaited, Here, Fed}
+use Rattle.mit_engine.specs.declared.operators.Operator.{Operator}
+use Rattle.mit_engine.specs.declared.operators.Outcome.{Outcome}
+use Rattle.mit_engine.specs.declared.operators.Outcome.TheVariants as outcome
+use Rattle.mit_engine.specs.declared.job.Action.{Action}
+use Rattle.mit_engine.specs.declared.job.Action.TheVariants as action
+use Rattle.mit_engine.specs.declared.job.Verdict.{Verdict}
+use Rattle.mit_engine.specs.declared.job.Verdict.TheVariants as verdict
+use Rattle.mit_engine.specs.declared.thin.ThinStep.{ThinStep}
+use Rattle.mit_engine.specs.declared.thin.ThinStep.TheVariants as step
+
+-- ---- the offer
+
+-- an action where its channel is not empty
+abbrev pub where_any : {A : Type 0} → List A → Action → List Action
+where_any [] action = []
+where_any (message ∷ later) action = action ∷ []
+
+unfoldable pub reports_from : ℕ → List Operator → List Action
+reports_from at [] = []
+reports_from at (operator ∷ operators) = where_any operator.reports (action.Hear at) ++ reports_from (at + 1) operators
+
+unfoldable pub edges_from : ℕ → ℕ → List Edge → List Action
+edges_from at input [] = []
+edges_from at input (edge ∷ edges) = where_any edge.parts (action.Take at input) ++ edges_from at (input + 1) edges
+
+unfoldable pub parts_from : ℕ → List Operator → List Action
+parts_from at [] = []
+parts_from at (operator ∷ operators) = edges_from at 0 operator.inputs ++ parts_from (at + 1) operators
+
+unfoldable pub polls_from : ℕ → List Operator → List Action
+polls_from at [] = []
+polls_from at (operator ∷ operators) = (if can_poll operator then action.Poll at ∷ [] else []) ++ polls_from (at + 1) operators
+
+-- the path's message, then the reports by operator, the parts by operator and edge, and the polls by operator
+abbrev pub offer_of : List ℕ → Bool → List Operator → List Action
+offer_of path learned operators =
+    where_any path action.Learn ++ reports_from 0 operators ++ parts_from 0 operators ++ (if learned then polls_from 0 operators else [])
+
+-- an action can be done now
+abbrev pub IsEnabled : List ℕ → Bool → List Operator → Action → Type 0
+IsEnabled path learned operators action.Learn = 0 < length path
+IsEnabled path learned operators (action.Hear at) = (operator : Operator) × (slice_get operators at ≡ Some operator) × (0 < length operator.reports)
+IsEnabled path learned operators (action.Take at input) =
+    (operator : Operator) × (edge : Edge) × (slice_get operators at ≡ Some operator) × (slice_get operator.inputs input ≡ Some edge) × (0 < length edge.parts)
+IsEnabled path learned operators (action.Poll at) = (learned ≡ true) × ((operator : Operator) × (slice_get operators at ≡ Some operator) × (can_poll operator ≡ true))
+
+-- ---- the end
+
+-- the first operator in the order of the text that is not heard Done decides
+abbrev pub verdict_at : ℕ → Option Outcome → Verdict → Verdict
+verdict_at at None later = verdict.Running
+verdict_at at (Some outcome.Done) later = later
+verdict_at at (Some (outcome.Fault kind)) later = verdict.Fault at kind
+
+unfoldable pub verdict_from : ℕ → List Operator → Verdict
+verdict_from at [] = verdict.Complete
+verdict_from at (operator ∷ operators) = verdict_at at operator.heard (verdict_from (at + 1) operators)
+
+-- the actions that are left: the path's message, and those of the operators
+abbrev pub left : List ℕ → List Operator → ℕ
+left path operators = length path + sum_by operator_left operators
+
+-- ---- what the channels hold
+
+-- what an operator has made: nothing before its poll, then a bag or a fault
+pub data Part : Type 0 where
+  Unmade : Part
+  Made : BagOf → Part
+  Failed : FaultKind → Part
+
+-- a report is in its channel, or it was heard
+abbrev pub Reports : Outcome → List Outcome → Option Outcome → Type 0
+Reports outcome reports heard = ((reports ≡ outcome ∷ []) × (heard ≡ None)) ⊎ ((reports ≡ []) × (heard ≡ Some outcome))
+
+abbrev pub ReportsPart : Part → Bool → List Outcome → Option Outcome → Type 0
+ReportsPart Unmade polled reports heard = (polled ≡ false) × (reports ≡ []) × (heard ≡ None)
+ReportsPart (Made bag) polled reports heard = (polled ≡ true) × Reports outcome.Done reports heard
+ReportsPart (Failed kind) polled reports heard = (polled ≡ true) × Reports (outcome.Fault kind) reports heard
+
+-- an edge holds nothing before its source has made a bag; then the bag is in its channel, or received, or fed to its target's poll
+abbrev pub EdgeHolds : Part → Bool → List BagOf → Received → Type 0
+EdgeHolds Unmade polled parts received = (polled ≡ false) × (parts ≡ []) × (received ≡ Awaited)
+EdgeHolds (Failed kind) polled parts received = (polled ≡ false) × (parts ≡ []) × (received ≡ Awaited)
+EdgeHolds (Made bag) polled parts received =
+    ((polled ≡ false) × (parts ≡ bag ∷ []) × (received ≡ Awaited))
+    ⊎ ((polled ≡ false) × (parts ≡ []) × (received ≡ Here bag))
+    ⊎ ((polled ≡ true) × (parts ≡ []) × (received ≡ Fed))
+
+-- a write that has made its bag has staged it
+abbrev pub StagesPart : ThinStep → Part → Option BagOf → Type 0
+StagesPart (step.Write source name) (Made bag) staged = staged ≡ Some bag
+StagesPart (step.Write source name) Unmade staged = ⊤
+StagesPart (step.Write source name) (Failed kind) staged = ⊤
+StagesPart (step.Read target name count) part staged = ⊤
+StagesPart (step.Union target left right) part staged = ⊤
+
+-- an operator, its sources and the parts of all operators
+pub record OperatorHolds (statement : ThinStep) (from : List ℕ) (parts : ℕ → Part) (at : ℕ) (operator : Operator) : Type 0 where
+  pub wired : map (λ edge. edge.from) operator.inputs ≡ from
+  pub reports : ReportsPart (parts at) operator.polled operator.reports operator.heard
+  pub edges : (input : ℕ) (edge : Edge) → slice_get operator.inputs input ≡ Some edge → EdgeHolds (parts edge.from) operator.polled edge.parts edge.received
+  pub staged : StagesPart statement (parts at) operator.staged
+
+-- the path's one message is in its channel, or it was learned, and nothing is made before
+abbrev pub PathHolds : (ℕ → Part) → List ℕ → Bool → Type 0
+PathHolds parts path learned =
+    ((learned ≡ false) × (path ≡ 0 ∷ []) × ((at : ℕ) → parts at ≡ Unmade)) ⊎ ((learned ≡ true) × (path ≡ []))
+
+-- the channels hold what the parts say
+pub record Holds (steps : List ThinStep) (parts : ℕ → Part) (path : List ℕ) (learned : Bool) (operators : List Operator) : Type 0 where
+  pub sized : length operators ≡ length steps
+  pub begun : PathHolds parts path learned
+  pub each : (at : ℕ) (operator : Operator) (statement : ThinStep) (from : List ℕ)
+      → slice_get operators at ≡ Some operator → slice_get steps at ≡ Some statement → slice_get (sources steps) at ≡ Some from
+      → OperatorHolds statement from parts at operator
+
+-- the bags that these operators have made, where all have
+abbrev pub with_bag : Part → Option (List BagOf) → Option (List BagOf)
+with_bag (Made bag) (Some bags) = Some (bag ∷ bags)
+with_bag (Made bag) None = None
+with_bag Unmade bags = None
+with_bag (Failed kind) bags = None
+
+abbrev pub bags_of : (ℕ → Part) → List ℕ → Option (List BagOf)
+bags_of parts [] = Some []
+bags_of parts (from ∷ later) = with_bag (parts from) (bags_of parts later)
+
+-- what an operator has made is what its statement makes of its sources' bags
+abbrev pub MadeOf : FileMap → ThinStep → Option (List BagOf) → Part → Type 0
+MadeOf files statement bags Unmade = ⊤
+MadeOf files statement None (Made bag) = ⊥
+MadeOf files statement (Some bags) (Made bag) = whole files statement bags ≡ Ok bag
+MadeOf files statement None (Failed kind) = ⊥
+MadeOf files statement (Some bags) (Failed kind) = whole files statement bags ≡ Err kind
+
+abbrev pub Means : FileMap → List ThinStep → (ℕ → Part) → Type 0
+Means files steps parts = (at : ℕ) (statement : ThinStep) (from : List ℕ)
+    → slice_get steps at ≡ Some statement → slice_get (sources steps) at ≡ Some from → MadeOf files statement (bags_of parts from) (parts at)
+
+-- the job stands for some parts, which mean the same over all files that agree with the shelf
+pub record Stands (steps : List ThinStep) (shelf : Kept) (path : List ℕ) (learned : Bool) (operators : List Operator) : Type 0 where
+  pub parts : ℕ → Part
+  pub holds : Holds steps parts path learned operators
+  pub means : (files : FileMap) → Agrees shelf files → Means files steps parts
