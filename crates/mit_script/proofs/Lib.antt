@@ -1,0 +1,2 @@
+pub mod StmtTexts
+pub mod FormedExample

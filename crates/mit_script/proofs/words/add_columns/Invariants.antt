@@ -1,0 +1,7 @@
+use Rattle.std.proofs.Common.{◌≡◌, ◌++◌, flat_map, take}
+use Rattle.mit_script.specs.Words.{comma, column_tokens, spaced}
+use Rattle.mit_script.proofs.words.add_columns.Given as goal
+
+abbrev pub invariant-loop-column : goal.invariant-loop-column
+invariant-loop-column l =
+    l.text.items ≡ l.initial.text.items ++ spaced (flat_map (λ column. comma ++ column_tokens column) (take l.column-index l.more))

@@ -1,0 +1,7 @@
+use Rattle.std.proofs.Common.{◌≡◌, ◌++◌, flat_map, take}
+use Rattle.mit_script.specs.Words.{comma, expr_tokens, spaced}
+use Rattle.mit_script.proofs.words.add_listed_exprs.Given as goal
+
+abbrev pub invariant-loop-expr : goal.invariant-loop-expr
+invariant-loop-expr l =
+    l.text.items ≡ l.initial.text.items ++ spaced (flat_map (λ expr. comma ++ expr_tokens l.names l.captured expr) (take l.expr-index l.more))

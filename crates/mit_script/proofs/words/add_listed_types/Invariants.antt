@@ -1,0 +1,7 @@
+use Rattle.std.proofs.Common.{◌≡◌, ◌++◌, flat_map, take}
+use Rattle.mit_script.specs.Words.{comma, type_tokens, spaced}
+use Rattle.mit_script.proofs.words.add_listed_types.Given as goal
+
+abbrev pub invariant-loop-is : goal.invariant-loop-is
+invariant-loop-is l =
+    l.text.items ≡ l.initial.text.items ++ spaced (flat_map (λ is. comma ++ type_tokens is) (take l.is-index l.more))

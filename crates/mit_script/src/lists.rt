@@ -1,0 +1,109 @@
+//! Lists inside scripts: each is made from a `Vec` without taking memory.
+ghost use Rattle.std.specs.Prelude.{◌≡◌, ◌≤◌, length};
+
+use mit_rows::Text;
+use std::marker::Model;
+
+/// The name of a variable: a text of 1 to 64 bytes, which contracts see as its bytes.
+#[derive(Debug, Drop)]
+pub struct Name {
+    text: Text,
+}
+
+impl Model for Name {
+    ghost use Rattle.std.specs.Prelude.{List, ℕ, ◌≤◌, length};
+
+    ghost Value = { List ℕ };
+
+    ghost view = { λ n. n.text };
+
+    ghost invariant = { λ n. (1 ≤ length n.text) × (length n.text ≤ 64) };
+}
+
+impl Name {
+    /// A name of this text.
+    pub fn from_text(text: Text) -> Name
+        requires some { 1 ≤ length text }
+        requires short { length text ≤ 64 }
+        ensures { result ≡ text }
+    {
+        Name { text }
+    }
+
+    /// Its bytes.
+    pub fn bytes(&self) -> &[u8]
+        ensures value { result.now ≡ self.now }
+        ensures some { 1 ≤ length self.now }
+        ensures short { length self.now ≤ 64 }
+    {
+        self.text.bytes()
+    }
+
+    /// It as text.
+    pub fn as_str(&self) -> &str
+        ensures { result.now ≡ self.now }
+    {
+        self.text.as_str()
+    }
+}
+
+/// The names of a script's variables, which contracts see as their list.
+#[derive(Debug, Drop)]
+pub struct Names {
+    names: Vec<Name>,
+}
+
+impl Model for Names {
+    ghost use Rattle.std.specs.Prelude.{List, ℕ};
+
+    ghost Value = { List (List ℕ) };
+
+    ghost view = { λ n. n.names.items };
+}
+
+impl Names {
+    /// A list of these names.
+    pub fn from_vec(names: Vec<Name>) -> Names
+        ensures { result ≡ names.items }
+    {
+        Names { names }
+    }
+
+    /// The names.
+    pub fn as_slice(&self) -> &[Name]
+        ensures { result.now ≡ self.now }
+    {
+        &self.names
+    }
+}
+
+/// The arguments of a statement's operator, by the numbers of the variables, in a list that contracts see as it is: the
+/// bags, and then the captured scalars in the order in which they appear first.
+#[derive(Debug, Drop)]
+pub struct Args {
+    variables: Vec<u32>,
+}
+
+impl Model for Args {
+    ghost use Rattle.std.specs.Prelude.{List, ℕ};
+
+    ghost Value = { List ℕ };
+
+    ghost view = { λ a. a.variables.items };
+}
+
+impl Args {
+    /// A list of these variables.
+    pub fn from_vec(variables: Vec<u32>) -> Args
+        ensures { result ≡ variables.items }
+    {
+        Args { variables }
+    }
+
+    /// The variables.
+    pub fn as_slice(&self) -> &[u32]
+        ensures { result.now ≡ self.now }
+    {
+        &self.variables
+    }
+}
