@@ -1,3 +1,4 @@
 pub mod Trees
 pub mod Words
 pub mod Printed
+pub mod Accepted

@@ -1,5 +1,6 @@
 -- How many statements a script has, and when it is formed.
 use Rattle.std.specs.Prelude.{◌≡◌, ◌≢◌, ◌≤◌, ◌<◌, ℕ, ◌+◌, max, List, [], ◌∷◌, ◌++◌, length, map, sum, flat_map, All, AllPairs, Bool, true, false, nat_le, ◌&&◌}
+use denote.Struct.Props.{props}
 use Rattle.mit_expr.specs.declared.expr.Expr.{Expr}
 use Rattle.mit_expr.specs.declared.expr.Expr.TheFolds.{fold-Expr}
 use Rattle.mit_expr.specs.declared.expr.Expr.TheOpen.{Expr-F}
@@ -108,3 +109,9 @@ pub record IsFormed (script : Script) : Type 0 where
   pub short : statements_of script ≤ 1048576
   pub distinct : AllPairs (λ name other. name ≢ other) script.names
   pub formed : All (IsFormedHead (length script.names)) (heads_of script)
+
+-- a statement is formed in at most one way
+pub formed_once : (variables : ℕ) (head : Head) → IsProp (IsFormedHead variables head)
+formed_once variables (assigns target operator args) = hlevel props
+formed_once variables (writes operator args) = hlevel props
+formed_once variables (decides operator args) = hlevel props

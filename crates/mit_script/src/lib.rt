@@ -4,11 +4,13 @@
 mod lists;
 mod printed;
 mod tree;
+mod typed;
 mod words;
 
-pub use lists::{Args, Name, Names};
+pub use lists::{Args, Name, Names, VarTypes};
 pub use printed::print;
 pub use tree::{Script, Stmt, statements};
+pub use typed::{CheckCode, Typed};
 
 #[cfg(test)]
 mod tests;

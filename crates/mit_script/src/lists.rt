@@ -1,6 +1,7 @@
 //! Lists inside scripts: each is made from a `Vec` without taking memory.
 ghost use Rattle.std.specs.Prelude.{◌≡◌, ◌≤◌, length};
 
+use mit_ops::VarType;
 use mit_rows::Text;
 use std::marker::Model;
 
@@ -105,5 +106,36 @@ impl Args {
         ensures { result.now ≡ self.now }
     {
         &self.variables
+    }
+}
+
+/// The types of a script's variables by their numbers, which contracts see as their list.
+#[derive(Debug, Drop)]
+pub struct VarTypes {
+    types: Vec<VarType>,
+}
+
+impl Model for VarTypes {
+    ghost use Rattle.std.specs.Prelude.{List};
+    ghost use Rattle.mit_ops.specs.declared.types.VarType.{VarType as OneType};
+
+    ghost Value = { List OneType };
+
+    ghost view = { λ t. t.types.items };
+}
+
+impl VarTypes {
+    /// A list of these types.
+    pub fn from_vec(types: Vec<VarType>) -> VarTypes
+        ensures { result ≡ types.items }
+    {
+        VarTypes { types }
+    }
+
+    /// The types.
+    pub fn as_slice(&self) -> &[VarType]
+        ensures { result.now ≡ self.now }
+    {
+        &self.types
     }
 }

@@ -1,0 +1,13 @@
+//! The check of scripts: which are accepted, with the types of their variables, and why others are not.
+#![tactic(auto)]
+
+mod blocks;
+mod faults;
+mod operators;
+mod tables;
+
+pub use blocks::check;
+pub use faults::CheckStop;
+
+#[cfg(test)]
+mod tests;

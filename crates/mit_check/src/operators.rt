@@ -1,0 +1,182 @@
+//! The check of one statement, without those in its blocks.
+ghost use Rattle.std.specs.Prelude.{◌≡◌, ◌+◌, ◌<◌, Ok, IfOk, IfErr, drop, slice_set, true};
+ghost use Rattle.mit_ops.specs.Results.{IsBagType, Refuses};
+ghost use Rattle.mit_script.specs.Accepted as spec;
+ghost use Rattle.mit_check.specs.Tells.{TellsFault, TellsRefusal, known_in};
+
+use crate::faults::CheckStop;
+use crate::tables::{Kept, Tables};
+use mit_ops::{OpRefused, OpSpec, VarType, result_type};
+use mit_rows::ColType;
+use mit_script::CheckCode;
+use std::alloc::{AllocError, Global};
+
+/// What stands behind the first of these.
+fn behind(args: &[u32], count: u16) -> &[u32]
+    ensures { result.now ≡ drop count args.now }
+{
+    args.get(usize::from(count)..).unwrap_or(&[])
+}
+
+/// A statement is refused as its operator is.
+fn refused(statement: u32, why: OpRefused) -> CheckStop
+    ensures { TellsRefusal statement why result }
+{
+    let code = match why {
+        OpRefused::TooLarge => CheckCode::TooLarge,
+        OpRefused::TooManyColumns => CheckCode::TooManyColumns,
+        OpRefused::WrongType => CheckCode::WrongType,
+        OpRefused::NoMemory => return CheckStop::NoMemory,
+    };
+    CheckStop::Fault { statement, code }
+}
+
+/// The type of what an operator gives over its arguments.
+fn infer(alloc: Global, tables: &Tables, op: &OpSpec, args: &[u32]) -> Result<VarType, OpRefused>
+    ensures typed { IfOk result (λ type.
+        spec.typed_by (known_in tables.now) op.now args.now ≡ Ok type) }
+    ensures refused { IfErr result (Refuses (spec.typed_by (known_in tables.now) op.now args.now)) }
+    ensures kept { IfOk result IsBagType }
+{
+    let bags = tables.bags(alloc, op, args)?;
+    let captures = tables.captures(alloc, behind(args, op.bag_inputs()))?;
+    result_type(alloc, op, &bags, &captures)
+}
+
+/// The type of what the operator of a statement gives.
+fn judge(alloc: Global, tables: &Tables, op: &OpSpec, args: &[u32]) -> Result<Kept, CheckStop>
+    requires { tables.now.before < 1048576 }
+    ensures passed { IfOk result (λ type.
+        spec.fault_or (known_in tables.now) (spec.judged (known_in tables.now) op.now args.now) ≡ Ok type) }
+    ensures fault { IfErr result (TellsFault
+        (spec.fault_or (known_in tables.now) (spec.judged (known_in tables.now) op.now args.now))) }
+{
+    let statement = tables.before + 1;
+    if !tables.are_assigned(args) {
+        let code = CheckCode::Unassigned;
+        return Err(CheckStop::Fault { statement, code });
+    }
+    if !tables.are_scalars(behind(args, op.bag_inputs())) {
+        let code = CheckCode::NotScalar;
+        return Err(CheckStop::Fault { statement, code });
+    }
+    match infer(alloc, tables, op, args) {
+        Ok(is) => Ok(Kept::of(is)),
+        Err(why) => Err(refused(statement, why)),
+    }
+}
+
+/// Whether a type is a scalar that is a truth value.
+fn is_condition(is: &VarType) -> bool
+    ensures { result ≡ spec.is_condition is.now }
+{
+    is.scalar && is.cols.as_slice() == [ColType::Bool].as_slice()
+}
+
+/// Marks a variable as assigned.
+fn mark(assigned: &mut Vec<bool>, variable: u32)
+    ensures { assigned.new.items ≡ slice_set assigned.old.items variable true }
+{
+    if (variable as usize) < assigned.len() {
+        assigned[variable as usize] = true;
+    }
+}
+
+/// Keeps the type of a variable.
+fn keep(types: &mut Vec<Option<Kept>>, variable: u32, is: Kept)
+    ensures { types.new.items ≡ slice_set types.old.items variable (Some is) }
+{
+    if (variable as usize) < types.len() {
+        types[variable as usize] = Some(is);
+    }
+}
+
+/// What is known behind an assignment.
+pub(crate) fn assign(
+    alloc: Global,
+    tables: Tables,
+    target: u32,
+    op: &OpSpec,
+    args: &[u32],
+) -> Result<Tables, CheckStop>
+    requires { tables.before < 1048576 }
+    ensures passed { IfOk result (λ after.
+        spec.assigned_by target op.now args.now (known_in tables) ≡ Ok (known_in after)) }
+    ensures fault { IfErr result (TellsFault (spec.assigned_by target op.now args.now (known_in tables))) }
+    ensures counted { IfOk result (λ after. after.before ≡ tables.before + 1) }
+{
+    let is = judge(alloc, &tables, op, args)?;
+    if !tables.is_kept(target, is.get()) {
+        let statement = tables.before + 1;
+        let code = CheckCode::WrongType;
+        return Err(CheckStop::Fault { statement, code });
+    }
+    let Tables {
+        mut assigned,
+        mut types,
+        before,
+    } = tables;
+    mark(&mut assigned, target);
+    keep(&mut types, target, is);
+    Ok(Tables {
+        assigned,
+        types,
+        before: before + 1,
+    })
+}
+
+/// What is known behind one more statement.
+fn pass(tables: Tables) -> Tables
+    requires { tables.before < 1048576 }
+    ensures { known_in result ≡ spec.passed (known_in tables) }
+{
+    let Tables {
+        assigned,
+        types,
+        before,
+    } = tables;
+    Tables {
+        assigned,
+        types,
+        before: before + 1,
+    }
+}
+
+/// What is known behind a write.
+pub(crate) fn write(
+    alloc: Global,
+    tables: Tables,
+    op: &OpSpec,
+    args: &[u32],
+) -> Result<Tables, CheckStop>
+    requires { tables.before < 1048576 }
+    ensures passed { IfOk result (λ after.
+        spec.written_by op.now args.now (known_in tables) ≡ Ok (known_in after)) }
+    ensures fault { IfErr result (TellsFault (spec.written_by op.now args.now (known_in tables))) }
+    ensures counted { IfOk result (λ after. after.before ≡ tables.before + 1) }
+{
+    judge(alloc, &tables, op, args)?;
+    Ok(pass(tables))
+}
+
+/// What is known behind a condition.
+pub(crate) fn decide(
+    alloc: Global,
+    tables: Tables,
+    op: &OpSpec,
+    args: &[u32],
+) -> Result<Tables, CheckStop>
+    requires { tables.before < 1048576 }
+    ensures passed { IfOk result (λ after.
+        spec.decided_by op.now args.now (known_in tables) ≡ Ok (known_in after)) }
+    ensures fault { IfErr result (TellsFault (spec.decided_by op.now args.now (known_in tables))) }
+    ensures counted { IfOk result (λ after. after.before ≡ tables.before + 1) }
+{
+    let is = judge(alloc, &tables, op, args)?;
+    if !is_condition(is.get()) {
+        let statement = tables.before + 1;
+        let code = CheckCode::WrongType;
+        return Err(CheckStop::Fault { statement, code });
+    }
+    Ok(pass(tables))
+}

@@ -1,0 +1,197 @@
+-- Which scripts are accepted, with the types of their variables, and which statement is refused first, and why.
+use Rattle.std.specs.Prelude.{ℕ, ◌+◌, List, [], ◌∷◌, map, drop, zip, flat_map, Bool, true, false, not, ◌&&◌, if◌then◌else◌, Option, Some, None, option_map, unwrap_or, Result, Ok, Err, slice_get, slice_set}
+use Rattle.mit_rows.specs.declared.value.ColType.TheVariants.{Bool as Truth}
+use Rattle.mit_ops.specs.Kinds.{bag_inputs_of}
+use Rattle.mit_ops.specs.Results.{same_types, typed_as}
+use Rattle.mit_ops.specs.declared.kinds.OpSpec.{OpSpec}
+use Rattle.mit_ops.specs.declared.kinds.OpSpec.TheVariants as op
+use Rattle.mit_ops.specs.declared.types.VarType.{VarType}
+use Rattle.mit_ops.specs.declared.types.OpRefused.{OpRefused}
+use Rattle.mit_ops.specs.declared.types.OpRefused.TheVariants as refused
+use Rattle.mit_script.specs.declared.tree.Script.{Script}
+use Rattle.mit_script.specs.declared.tree.Stmt.{Stmt}
+use Rattle.mit_script.specs.declared.tree.Stmt.TheFolds.{fold-Stmt}
+use Rattle.mit_script.specs.declared.tree.Stmt.TheOpen.{Stmt-F}
+use Rattle.mit_script.specs.declared.tree.Stmt.TheOpen as stmt
+use Rattle.mit_script.specs.declared.typed.CheckCode.{CheckCode}
+use Rattle.mit_script.specs.declared.typed.CheckCode.TheVariants.{Unassigned, NotScalar, TooLarge, TooManyColumns, WrongType}
+
+-- what is known at a place in the text
+pub record Known : Type 0 where
+  -- for each variable, whether it is assigned on every path to here
+  pub assigned : List Bool
+  -- for each variable, the type of its first assignment in the text up to here
+  pub types : List (Option VarType)
+  -- how many statements stand before
+  pub before : ℕ
+
+-- the type of a variable that no statement assigns
+abbrev pub unset : VarType
+unset = record { scalar = false; cols = [] }
+
+abbrev pub given : Option VarType → VarType
+given None = unset
+given (Some type) = type
+
+abbrev pub is_assigned : Known → ℕ → Bool
+is_assigned known variable = unwrap_or (slice_get known.assigned variable) false
+
+-- the type of a variable's first assignment, where there was one
+abbrev pub first_type : Known → ℕ → Option VarType
+first_type known variable = unwrap_or (slice_get known.types variable) None
+
+abbrev pub type_of : Known → ℕ → VarType
+type_of known variable = given (first_type known variable)
+
+-- whether each of these passes a test
+abbrev pub all_of : {A : Type 0} → (A → Bool) → List A → Bool
+all_of test [] = true
+all_of test (one ∷ more) = test one && all_of test more
+
+-- the type of the argument at a place
+abbrev pub argument : Known → List ℕ → ℕ → VarType
+argument known args place = unwrap_or (option_map (type_of known) (slice_get args place)) unset
+
+-- the types of an operator's bags, which are its first arguments
+abbrev pub bags_of : Known → OpSpec → List ℕ → List VarType
+bags_of known (op.Scalar expr) args = []
+bags_of known (op.Read name types) args = []
+bags_of known (op.MakeRow exprs) args = []
+bags_of known (op.Empty types) args = []
+bags_of known (op.Join left right) args = argument known args 0 ∷ argument known args 1 ∷ []
+bags_of known op.Union args = argument known args 0 ∷ argument known args 1 ∷ []
+bags_of known _ args = argument known args 0 ∷ []
+
+-- the captured variables, behind the bags
+abbrev pub captured : OpSpec → List ℕ → List ℕ
+captured operator args = drop (bag_inputs_of operator) args
+
+abbrev pub code_of : OpRefused → CheckCode
+code_of refused.TooLarge = TooLarge
+code_of refused.TooManyColumns = TooManyColumns
+code_of refused.WrongType = WrongType
+code_of refused.NoMemory = WrongType
+
+-- the type that was found, or the code of the refusal
+abbrev pub typed_or_code : Result VarType OpRefused → Result VarType CheckCode
+typed_or_code (Ok type) = Ok type
+typed_or_code (Err why) = Err (code_of why)
+
+-- the type of what an operator gives over its arguments, where the captured ones are scalars
+abbrev pub typed_by : Known → OpSpec → List ℕ → Result VarType OpRefused
+typed_by known operator args =
+    typed_as operator (bags_of known operator args)
+    (flat_map (λ variable. (type_of known variable).cols) (captured operator args))
+
+-- the same, or the first code against it
+abbrev pub judged : Known → OpSpec → List ℕ → Result VarType CheckCode
+judged known operator args =
+    if not (all_of (is_assigned known) args) then Err Unassigned
+    else if not (all_of (λ variable. (type_of known variable).scalar) (captured operator args)) then Err NotScalar
+    else typed_or_code (typed_by known operator args)
+
+abbrev pub same_truth : Bool → Bool → Bool
+same_truth true other = other
+same_truth false other = not other
+
+-- whether a type is that of the first assignment, where there was one
+abbrev pub is_kept : Option VarType → VarType → Bool
+is_kept None type = true
+is_kept (Some first) type = same_truth first.scalar type.scalar && same_types first.cols type.cols
+
+-- a scalar that is a truth value
+abbrev pub is_condition : VarType → Bool
+is_condition type = type.scalar && same_types type.cols (Truth ∷ [])
+
+-- what is known behind one more statement, and behind an assignment
+abbrev pub passed : Known → Known
+passed known = record known { before = known.before + 1 }
+
+abbrev pub assigning : ℕ → VarType → Known → Known
+assigning target type known = record {
+  assigned = slice_set known.assigned target true;
+  types = slice_set known.types target (Some type);
+  before = known.before + 1;
+}
+
+-- a fault: the number of a statement, from 1, and its code
+abbrev pub Fault : Type 0
+Fault = ℕ × CheckCode
+
+abbrev pub fault_at : Known → CheckCode → Fault
+fault_at known code = (known.before + 1, code)
+
+abbrev pub and_then : {A B E : Type 0} → Result A E → (A → Result B E) → Result B E
+and_then (Ok value) next = next value
+and_then (Err fault) next = Err fault
+
+-- the same, where a code is the fault of the statement behind what is known
+abbrev pub fault_or : {A : Type 0} → Known → Result A CheckCode → Result A Fault
+fault_or known (Ok value) = Ok value
+fault_or known (Err code) = Err (fault_at known code)
+
+-- what is known behind an assignment, a write, and a condition, or the fault
+abbrev pub assigned_by : ℕ → OpSpec → List ℕ → Known → Result Known Fault
+assigned_by target operator args known =
+    and_then (fault_or known (judged known operator args)) (λ type.
+    if is_kept (first_type known target) type then Ok (assigning target type known) else Err (fault_at known WrongType))
+
+abbrev pub written_by : OpSpec → List ℕ → Known → Result Known Fault
+written_by operator args known = and_then (fault_or known (judged known operator args)) (λ type. Ok (passed known))
+
+abbrev pub decided_by : OpSpec → List ℕ → Known → Result Known Fault
+decided_by operator args known =
+    and_then (fault_or known (judged known operator args)) (λ type.
+    if is_condition type then Ok (passed known) else Err (fault_at known WrongType))
+
+-- a check goes from what is known before to what is known behind, or to the first fault
+abbrev pub Check : Type 0
+Check = Known → Result Known Fault
+
+-- one check after another
+abbrev pub in_order : List Check → Check
+in_order [] known = Ok known
+in_order (first ∷ more) known = and_then (first known) (in_order more)
+
+-- the same, but that this is what is assigned
+abbrev pub with_assigned : List Bool → Known → Known
+with_assigned assigned known = record known { assigned = assigned }
+
+-- what is assigned at the end of both blocks
+abbrev pub both : List Bool → List Bool → List Bool
+both one other = map (λ pair. pair.0 && pair.1) (zip one other)
+
+-- behind the first block of an `if` the second one begins with what was assigned before
+abbrev pub rejoined : List Check → List Bool → Check
+rejoined on_false before one =
+    and_then (in_order on_false (with_assigned before one)) (λ other.
+    Ok (with_assigned (both one.assigned other.assigned) other))
+
+-- behind the condition of an `if`, and of a `while`
+abbrev pub branched : List Check → List Check → Check
+branched on_true on_false inside = and_then (in_order on_true inside) (rejoined on_false inside.assigned)
+
+abbrev pub looped : List Check → Check
+looped body inside = and_then (in_order body inside) (λ last. Ok (with_assigned inside.assigned last))
+
+-- one layer of a statement, with the check of each inner one in its place
+abbrev pub check_step : Stmt-F Check → Check
+check_step (stmt.Assign target operator args) known = assigned_by target operator args known
+check_step (stmt.Write operator args) known = written_by operator args known
+check_step (stmt.If operator args on_true on_false) known =
+    and_then (decided_by operator args known) (branched on_true on_false)
+check_step (stmt.While operator args body) known = and_then (decided_by operator args known) (looped body)
+
+abbrev pub check_of : Stmt → Check
+check_of = fold-Stmt Check check_step
+
+-- before the first statement nothing is assigned
+abbrev pub at_start : List (List ℕ) → Known
+at_start names = record { assigned = map (λ _. false) names; types = map (λ _. None) names; before = 0 }
+
+-- the types of all variables, or the first statement that is refused, with its first code
+abbrev pub checked_body : List (List ℕ) → List Stmt → Result (List VarType) Fault
+checked_body names body = and_then (in_order (map check_of body) (at_start names)) (λ last. Ok (map given last.types))
+
+abbrev pub checked : Script → Result (List VarType) Fault
+checked script = checked_body script.names script.body
