@@ -1,5 +1,6 @@
 //! What is known of the variables at a place in the text.
 ghost use Rattle.std.specs.Prelude.{◌≡◌, ◌∷◌, [], IfOk, length, map, flat_map};
+ghost use Rattle.std.specs.List.{list_all};
 ghost use Rattle.mit_ops.specs.Kinds.{bag_inputs_of};
 ghost use Rattle.mit_ops.specs.Results.{AreBags, IsBagType};
 ghost use Rattle.mit_script.specs.Accepted as spec;
@@ -87,7 +88,7 @@ impl Tables {
 
     /// Whether these variables are assigned.
     pub(crate) fn are_assigned(&self, variables: &[u32]) -> bool
-        ensures { result ≡ spec.all_of (spec.is_assigned (known_in self.now)) variables.now }
+        ensures { result ≡ list_all (spec.is_assigned (known_in self.now)) variables.now }
     {
         for variable in variables {
             if !self.is_assigned(*variable) {
@@ -109,7 +110,7 @@ impl Tables {
 
     /// Whether these variables are scalars.
     pub(crate) fn are_scalars(&self, variables: &[u32]) -> bool
-        ensures { result ≡ spec.all_of
+        ensures { result ≡ list_all
             (λ variable. (spec.type_of (known_in self.now) variable).scalar) variables.now }
     {
         for variable in variables {

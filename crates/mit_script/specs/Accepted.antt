@@ -1,5 +1,6 @@
 -- Which scripts are accepted, with the types of their variables, and which statement is refused first, and why.
 use Rattle.std.specs.Prelude.{ℕ, ◌+◌, List, [], ◌∷◌, map, drop, zip, flat_map, Bool, true, false, not, ◌&&◌, if◌then◌else◌, Option, Some, None, option_map, unwrap_or, Result, Ok, Err, slice_get, slice_set}
+use Rattle.std.specs.List.{list_all}
 use Rattle.mit_rows.specs.declared.value.ColType.TheVariants.{Bool as Truth}
 use Rattle.mit_ops.specs.Kinds.{bag_inputs_of}
 use Rattle.mit_ops.specs.Results.{same_types, typed_as}
@@ -43,11 +44,6 @@ first_type known variable = unwrap_or (slice_get known.types variable) None
 abbrev pub type_of : Known → ℕ → VarType
 type_of known variable = given (first_type known variable)
 
--- whether each of these passes a test
-abbrev pub all_of : {A : Type 0} → (A → Bool) → List A → Bool
-all_of test [] = true
-all_of test (one ∷ more) = test one && all_of test more
-
 -- the type of the argument at a place
 abbrev pub argument : Known → List ℕ → ℕ → VarType
 argument known args place = unwrap_or (option_map (type_of known) (slice_get args place)) unset
@@ -86,8 +82,8 @@ typed_by known operator args =
 -- the same, or the first code against it
 abbrev pub judged : Known → OpSpec → List ℕ → Result VarType CheckCode
 judged known operator args =
-    if not (all_of (is_assigned known) args) then Err Unassigned
-    else if not (all_of (λ variable. (type_of known variable).scalar) (captured operator args)) then Err NotScalar
+    if not (list_all (is_assigned known) args) then Err Unassigned
+    else if not (list_all (λ variable. (type_of known variable).scalar) (captured operator args)) then Err NotScalar
     else typed_or_code (typed_by known operator args)
 
 abbrev pub same_truth : Bool → Bool → Bool
