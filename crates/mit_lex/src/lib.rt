@@ -1,10 +1,12 @@
 //! The tokens of scripts: names, numbers, columns, texts, symbols and keywords.
 #![tactic(auto)]
 
+pub mod keyword;
 mod lexer;
 mod limits;
 mod piece;
 mod quoted;
+pub mod symbol;
 mod tables;
 mod token;
 

@@ -2,3 +2,5 @@ pub mod Trees
 pub mod Words
 pub mod Printed
 pub mod Accepted
+pub mod Grammar
+pub mod Reading

@@ -110,6 +110,16 @@ pub record IsFormed (script : Script) : Type 0 where
   pub distinct : AllPairs (λ name other. name ≢ other) script.names
   pub formed : All (IsFormedHead (length script.names)) (heads_of script)
 
+-- the variables of a statement, as they stand in the text
+abbrev pub variables_of : Head → List ℕ
+variables_of (assigns target operator args) = target ∷ args
+variables_of (writes operator args) = args
+variables_of (decides operator args) = args
+
+-- variables are numbered in the order in which they appear first
+abbrev pub IsNumbered : Script → Type 0
+IsNumbered script = is_in_order 0 (flat_map variables_of (heads_of script)) ≡ true
+
 -- a statement is formed in at most one way
 pub formed_once : (variables : ℕ) (head : Head) → IsProp (IsFormedHead variables head)
 formed_once variables (assigns target operator args) = hlevel props

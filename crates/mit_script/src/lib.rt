@@ -1,6 +1,7 @@
 //! The trees of scripts: when a script is formed, how many statements it has, and its printed text.
 #![tactic(auto)]
 
+pub mod laws;
 mod lists;
 mod printed;
 mod tree;
