@@ -43,7 +43,7 @@ no_escape byte plain = grind (arith, nat_tests)
 no_line_end : (byte : ℕ) → is_plain byte ≡ true → ((byte == 10) || (byte == 13)) ≡ false
 no_line_end byte plain = grind (arith, nat_tests)
 
-quoted_plain : (byte : ℕ) (rest : List ℕ) → is_plain byte ≡ true → quoted (byte ∷ rest) ≡ with_byte byte 1 (quoted rest)
+pub quoted_plain : (byte : ℕ) (rest : List ℕ) → is_plain byte ≡ true → quoted (byte ∷ rest) ≡ with_byte byte 1 (quoted rest)
 unfolding quoted
 quoted_plain byte [] plain = rw (no_quote byte plain) refl
 quoted_plain byte (next ∷ rest) plain = rw (no_quote byte plain, no_escape byte plain, no_line_end byte plain) refl
@@ -58,7 +58,7 @@ quoted_run (byte ∷ run) rest plain =
     quoted_plain byte (run ++ rest) parts.0
     ∙ (with_is_after byte 1 (quoted (run ++ rest)) ∙ (ap (after (byte ∷ []) 1) (quoted_run run rest parts.1) ∙ first_size byte run (quoted rest)))
 
-quoted_close : (rest : List ℕ) → quoted (34 ∷ rest) ≡ Some ([], 1)
+pub quoted_close : (rest : List ℕ) → quoted (34 ∷ rest) ≡ Some ([], 1)
 unfolding quoted
 quoted_close [] = refl
 quoted_close (next ∷ rest) = refl

@@ -22,7 +22,7 @@ digits_pass n text e = rw e (run_passes is_ascii_digit text)
 word_byte_ascii : (byte : ℕ) → is_word_byte byte ≡ true → byte < 128
 word_byte_ascii byte word = grind (arith, nat_tests)
 
-all_ascii : (bytes : List ℕ) → list_all is_word_byte bytes ≡ true → IsAscii bytes
+pub all_ascii : (bytes : List ℕ) → list_all is_word_byte bytes ≡ true → IsAscii bytes
 all_ascii [] all = IsAscii-nil
 all_ascii (byte ∷ bytes) all =
     let parts = and_parts (is_word_byte byte) (list_all is_word_byte bytes) all in

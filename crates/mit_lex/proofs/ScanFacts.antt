@@ -19,7 +19,7 @@ use Rattle.mit_lex.specs.declared.token.TokenKind.{TokenKind}
 
 -- ---- the definition, piece by piece
 
-covered_is : (n place : ℕ) (text : List ℕ) → scanned place n text ≡ scanned (place + n) 0 (drop n text)
+pub covered_is : (n place : ℕ) (text : List ℕ) → scanned place n text ≡ scanned (place + n) 0 (drop n text)
 unfolding scanned
 covered_is zero place text = ap (λ (at : ℕ). scanned at 0 text) (sym (add-zero place))
 covered_is (suc n) place [] = refl
@@ -27,7 +27,7 @@ covered_is (suc n) place (byte ∷ rest) =
     let at : suc place + n ≡ place + suc n = omega arith in
     covered_is n (suc place) rest ∙ ap (λ (from : ℕ). scanned from 0 (drop n rest)) at
 
-front_is : (place byte : ℕ) (rest : List ℕ) → scanned place 0 (byte ∷ rest) ≡ with_piece place (piece_at (byte ∷ rest)) (λ size. scanned (suc place) (size - 1) rest)
+pub front_is : (place byte : ℕ) (rest : List ℕ) → scanned place 0 (byte ∷ rest) ≡ with_piece place (piece_at (byte ∷ rest)) (λ size. scanned (suc place) (size - 1) rest)
 unfolding scanned
 front_is place byte rest = refl
 

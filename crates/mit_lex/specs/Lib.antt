@@ -3,3 +3,4 @@ pub mod Pieces
 pub mod Quotes
 pub mod Limits
 pub mod Tokens
+pub mod Valid

@@ -1,5 +1,6 @@
-ghost use Rattle.std.specs.Prelude.{◌≡◌, ◌≤◌, Ok, Err, length, IfOk, IfErr};
+ghost use Rattle.std.specs.Prelude.{◌≡◌, ◌≤◌, Ok, Err, length, All, IfOk, IfErr};
 ghost use Rattle.mit_lex.specs.Tokens.{TellsPlace, lexed, scanned, tokens_of};
+ghost use Rattle.mit_lex.specs.Valid.{IsToken};
 
 use crate::limits::Limits;
 use crate::piece::{Piece, piece_at};
@@ -21,6 +22,7 @@ const MAX_SCRIPT: usize = 1_048_576;
 pub fn tokens(alloc: Global, text: &[u8]) -> Result<Vec<Token>, LexStop>
     ensures tokens { IfOk result (λ tokens. tokens_of text.now ≡ Ok tokens.items) }
     ensures fault { IfErr result (λ stop. TellsPlace (tokens_of text.now) stop) }
+    ensures valid { IfOk result (λ tokens. All (λ token. IsToken token.kind) tokens.items) }
 {
     if text.len() > MAX_SCRIPT {
         return Err(LexStop::Fault {

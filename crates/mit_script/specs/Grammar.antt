@@ -1,5 +1,5 @@
 -- The grammar of scripts: which tokens spell which tree, one case for each form.
-use Rattle.std.specs.Prelude.{◌≡◌, ◌<◌, ◌≤◌, ℕ, suc, ◌+◌, ◌^◌, ℤ, pos, neg_ℤ, List, [], ◌∷◌, ◌++◌, map, filter, take, drop, Bool, true, false, not, bytes_eq, unwrap_or, position}
+use Rattle.std.specs.Prelude.{◌≡◌, ◌<◌, ◌≤◌, ℕ, suc, ◌^◌, pos, neg_ℤ, List, [], ◌∷◌, ◌++◌, map, filter, take, drop, Bool, true, false, not, bytes_eq, unwrap_or, position, Ok}
 use Rattle.mit_rows.specs.declared.value.Value.TheVariants as value
 use Rattle.mit_rows.specs.declared.value.ColType.{ColType}
 use Rattle.mit_rows.specs.declared.value.ColType.TheVariants.{Int, Text as Letters, Bool as Truth}
@@ -17,6 +17,8 @@ use Rattle.mit_ops.specs.declared.kinds.Agg.TheVariants as agg
 use Rattle.mit_ops.specs.declared.kinds.Flat.TheVariants as flat
 use Rattle.mit_ops.specs.declared.kinds.OpSpec.{OpSpec}
 use Rattle.mit_ops.specs.declared.kinds.OpSpec.TheVariants as kind
+use Rattle.mit_lex.specs.Tokens.{tokens_of}
+use Rattle.mit_lex.specs.declared.token.Token.{Token}
 use Rattle.mit_lex.specs.declared.token.TokenKind.{TokenKind}
 use Rattle.mit_lex.specs.declared.token.TokenKind.TheVariants.{Name, Number, Column, Text, Symbol, Keyword}
 use Rattle.mit_lex.specs.declared.symbol.TheConstants as symbol
@@ -229,6 +231,15 @@ mutual
 pub record Spells (script : Script) (tokens : Kinds) : Type 0 where
   pub named : script.names ≡ each_once (names_in tokens)
   pub body : SpellsBody script.names script.body tokens
+
+abbrev pub kinds : List Token → Kinds
+kinds tokens = map (λ token. token.kind) tokens
+
+-- the text has tokens, and they spell the script
+pub record IsSpelled (text : List ℕ) (script : Script) : Type 0 where
+  pub tokens : List Token
+  pub read : tokens_of text ≡ Ok tokens
+  pub spelled : Spells script (kinds tokens)
 
 -- some spelled list begins with these tokens
 abbrev pub CanGoOn : Kinds → Type 0

@@ -1,6 +1,6 @@
 -- How a script is read from its tokens, from left to right. Nothing here has to be believed: that what is read is what the
 -- grammar spells, and where reading stops, is `laws::reading_law`.
-use Rattle.std.specs.Prelude.{ℕ, zero, suc, ◌-◌, ◌+◌, ◌^◌, pos, neg_ℤ, List, [], ◌∷◌, ◌++◌, length, map, take_while, Bool, true, false, not, nat_lt, nat_le, ◌==◌, ◌||◌, if◌then◌else◌, Option, Some, None, Result, Ok, Err}
+use Rattle.std.specs.Prelude.{ℕ, zero, suc, ◌-◌, ◌+◌, ◌^◌, pos, neg_ℤ, List, [], ◌∷◌, ◌++◌, length, take_while, Bool, true, false, not, nat_lt, nat_le, ◌==◌, ◌||◌, if◌then◌else◌, Option, Some, None, Result, Ok, Err}
 use Rattle.mit_rows.specs.declared.value.Value.TheVariants as value
 use Rattle.mit_rows.specs.declared.value.ColType.{ColType}
 use Rattle.mit_rows.specs.declared.value.ColType.TheVariants.{Int, Text as Letters, Bool as Truth}
@@ -16,7 +16,7 @@ use Rattle.mit_ops.specs.declared.kinds.Agg.TheVariants as agg
 use Rattle.mit_ops.specs.declared.kinds.Flat.TheVariants as flat
 use Rattle.mit_ops.specs.declared.kinds.OpSpec.{OpSpec}
 use Rattle.mit_ops.specs.declared.kinds.OpSpec.TheVariants as kind
-use Rattle.mit_lex.specs.Limits.{ends_run, is_symbol}
+use Rattle.mit_lex.specs.Limits.{ends_run}
 use Rattle.mit_lex.specs.declared.token.TokenKind.{TokenKind}
 use Rattle.mit_lex.specs.declared.token.TokenKind.TheVariants.{Name, Number, Column, Text, Symbol, Keyword}
 use Rattle.mit_lex.specs.declared.symbol.TheConstants as symbol

@@ -1,7 +1,9 @@
 //! The printed text of a script: its statements, one a line.
 ghost use Rattle.std.specs.Prelude.{◌≡◌, ◌∷◌, ◌++◌, [], codes, map, IfOk, OnOk};
+ghost use Rattle.mit_script.specs.Grammar.{IsSpelled};
 ghost use Rattle.mit_script.specs.Printed as spec;
 ghost use Rattle.mit_script.specs.Printed.{printed};
+ghost use Rattle.mit_script.specs.PrintsBack.{CanBeSpelled, KeepsLimits, PrintsBack};
 ghost use Rattle.mit_script.specs.Words.{op_tokens};
 
 use crate::lists::{Args, Name};
@@ -186,8 +188,14 @@ fn add_stmt(
 
 /// The text of a script: one statement a line, two blanks of indentation for each block around it, one blank between two
 /// tokens, and parentheses only where the tree needs them. An empty `else` is left out.
+///
+/// The text of a script that some tokens spell is cut into tokens that spell it again, and it is read as these where it
+/// keeps the limits of a text.
 pub fn print(alloc: Global, script: &Script) -> Result<Vec<u8>, AllocError>
-    ensures { IfOk result (λ text. text.items ≡ printed script.now) }
+    ensures written { IfOk result (λ text. text.items ≡ printed script.now) }
+    ensures spelled { IfOk result (λ text. CanBeSpelled script.now → PrintsBack script.now text.items) }
+    ensures again { IfOk result (λ text.
+        CanBeSpelled script.now → KeepsLimits text.items → IsSpelled text.items script.now) }
 {
     let mut text = Vec::new(alloc);
     add_all(

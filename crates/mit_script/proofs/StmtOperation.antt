@@ -1,0 +1,201 @@
+-- An operator up to and with the symbol that ends its run.
+use Rattle.std.proofs.Common.{◌≡◌, ℕ, ◌+◌, ◌<◌, List, [], ◌∷◌, ◌++◌, length, true, Option, Some, Ok, Err, ◌⊎◌, inl, inr, refl, ap, sym, subst, ◌∙◌, arith, append_assoc}
+use Rattle.std.proofs.lemmas.Bool.{eq-eqb}
+use Rattle.mit_ops.specs.Kinds.{bag_inputs_of}
+use Rattle.mit_ops.specs.declared.kinds.OpSpec.{OpSpec}
+use Rattle.mit_lex.specs.Limits.{ends_run}
+use Rattle.mit_lex.specs.declared.token.TokenKind.{TokenKind}
+use Rattle.mit_lex.specs.declared.token.TokenKind.TheVariants.{Symbol}
+use Rattle.mit_script.specs.Grammar.{Kinds, SpellsOver, arguments_in, captured_in, number_in}
+use Rattle.mit_script.specs.Reading.{Reading, ◌>>=◌, Operation, bags_ahead, expect_symbol, number_ahead, operation, run_of}
+use Rattle.mit_script.proofs.Readers.{first_of}
+use Rattle.mit_script.proofs.RunLemmas.{is_run, run_of-append}
+use Rattle.mit_script.proofs.RightReaders.{Numbers}
+use Rattle.mit_script.proofs.StmtReaders.{Spelling, IsReader, Read, Stuck, Fits, fits_front, fits_back, bind_ok, bind_err, ok_once, ok_or_err, first_of-append}
+use Rattle.mit_script.proofs.StmtTokens.{Whatever, SymbolOf, reads_symbol, one_is}
+
+-- a form of operators: its reader, and what the numbers of names change
+pub record IsForm (Form : Spelling Numbers OpSpec) (F : Option TokenKind → Type 0) (form : Numbers → ℕ → Kinds → Reading OpSpec) (ending : ℕ) : Type 0 where
+  pub reads : (top slack : ℕ) → IsReader top slack Form F (λ number left most. form number most)
+  pub in_run : (number : Numbers) (op : OpSpec) (tokens : Kinds) → Form number op tokens → is_run tokens ≡ true
+  pub bags : (number : Numbers) (op : OpSpec) (tokens after : Kinds) → Form number op tokens
+      → (bags_ahead (tokens ++ after) ≡ bag_inputs_of op) ⊎ ((other : Numbers) → Form other op tokens)
+  pub renamed : (number other : Numbers) (op : OpSpec) (tokens : Kinds) → Form number op tokens → (op' : OpSpec) × Form other op' tokens × (bag_inputs_of op' ≡ bag_inputs_of op)
+  pub ends : F (Some (Symbol ending))
+  pub ends_it : ends_run (Symbol ending) ≡ true
+
+-- the numbers of the names that the operator captures
+abbrev own_number : OpSpec → Kinds → Numbers
+own_number op tokens = number_in (captured_in (bag_inputs_of op) tokens)
+
+-- an operator over its arguments, with the symbol that ends it
+pub data Ended (Form : Spelling Numbers OpSpec) (ending : ℕ) (names : List (List ℕ)) : Operation → Kinds → Type 0 where
+  with_end : {op : OpSpec} {args : List ℕ} {tokens : Kinds} → SpellsOver Form names op args tokens → Ended Form ending names (op, args) (tokens ++ Symbol ending ∷ [])
+
+-- the numbers of the names ahead are those of the operator's own names
+numbers_ahead : (op : OpSpec) (tokens all : Kinds) → bags_ahead all ≡ bag_inputs_of op → run_of all ≡ tokens → number_ahead all ≡ own_number op tokens
+unfolding number_ahead
+numbers_ahead op tokens all bags run = rw (bags, run) refl
+
+-- an operator is spelled with the numbers of the names ahead just where it is with those of its own
+with_ahead : (Form : Spelling Numbers OpSpec) (number : Numbers) (op : OpSpec) (tokens all : Kinds) → run_of all ≡ tokens
+    → (bags_ahead all ≡ bag_inputs_of op) ⊎ ((other : Numbers) → Form other op tokens) → Form (own_number op tokens) op tokens → Form (number_ahead all) op tokens
+with_ahead Form number op tokens all run (inl bags) x = subst (λ n. Form n op tokens) (sym (numbers_ahead op tokens all bags run)) x
+with_ahead Form number op tokens all run (inr any) x = any (number_ahead all)
+
+with_own : (Form : Spelling Numbers OpSpec) (op : OpSpec) (tokens all : Kinds) → run_of all ≡ tokens
+    → (bags_ahead all ≡ bag_inputs_of op) ⊎ ((other : Numbers) → Form other op tokens) → Form (number_ahead all) op tokens → Form (own_number op tokens) op tokens
+with_own Form op tokens all run (inl bags) x = subst (λ n. Form n op tokens) (numbers_ahead op tokens all bags run) x
+with_own Form op tokens all run (inr any) x = any (own_number op tokens)
+
+-- an operator is read
+operation_reads : (Form : Spelling Numbers OpSpec) (F : Option TokenKind → Type 0) (form : Numbers → ℕ → Kinds → Reading OpSpec) (ending : ℕ) → IsForm Form F form ending
+    → (names : List (List ℕ)) (most : ℕ) (op : OpSpec) (tokens after : Kinds) → length tokens < most → Form (own_number op tokens) op tokens
+    → operation form ending names most (tokens ++ Symbol ending ∷ after) ≡ Ok ((op, arguments_in names (bag_inputs_of op) tokens), after)
+unfolding operation expect_symbol
+operation_reads Form F form ending is names most op tokens after few x =
+    let all = tokens ++ Symbol ending ∷ after in
+    let run : run_of all ≡ tokens = run_of-append tokens (Symbol ending) after (is.in_run (own_number op tokens) op tokens x) is.ends_it in
+    let y : Form (number_ahead all) op tokens = with_ahead Form (own_number op tokens) op tokens all run (is.bags (own_number op tokens) op tokens (Symbol ending ∷ after) x) x in
+    let fits : Fits 0 most 0 most tokens = record { low = omega arith; deep = omega (arith, few); wide = few } in
+    let read : form (number_ahead all) most all ≡ Ok (op, Symbol ending ∷ after) = (is.reads 0 most).complete (number_ahead all) 0 most op tokens (Symbol ending ∷ after) fits y is.ends in
+    rw (read, eq-eqb ending ending refl, run) refl
+
+-- tokens of a form, with any numbers, are those of an operator
+viable : (Form : Spelling Numbers OpSpec) (F : Option TokenKind → Type 0) (form : Numbers → ℕ → Kinds → Reading OpSpec) (ending : ℕ) → IsForm Form F form ending
+    → (names : List (List ℕ)) (number : Numbers) (op : OpSpec) (tokens : Kinds) → Form number op tokens → (made : Operation) × Ended Form ending names made (tokens ++ Symbol ending ∷ [])
+viable Form F form ending is names number op tokens x =
+    let y = is.renamed number (own_number op tokens) op tokens x in
+    ((y.0, arguments_in names (bag_inputs_of y.0) tokens), with_end (record { form = rw y.2 y.1; over = refl }))
+
+-- the symbol that was read comes first
+symbol_read : (ending : ℕ) (tokens rest : Kinds) (u : Unit {0}) → expect_symbol ending tokens ≡ Ok (u, rest) → tokens ≡ Symbol ending ∷ rest
+symbol_read ending tokens rest u is =
+    let most = length tokens + 1 in
+    let x = (reads_symbol {P = Unit {0}} {top = 0} {slack = most} ending).sound tt 0 most u tokens rest (record { low = omega arith; deep = omega arith; wide = omega arith }) is in
+    x.cut ∙ ap (λ front. front ++ rest) (one_is (λ (v : Unit {0}). Symbol ending) tt u x.used x.spelled)
+
+-- what an operator that was read is
+pub record WasRead (Form : Spelling Numbers OpSpec) (ending : ℕ) (names : List (List ℕ)) (made : Operation) (tokens rest : Kinds) : Type 0 where
+  pub used : Kinds
+  pub cut : tokens ≡ used ++ Symbol ending ∷ rest
+  pub op_is : Form (own_number made.0 used) made.0 used
+  pub args_are : made.1 ≡ arguments_in names (bag_inputs_of made.0) used
+
+was_read : (Form : Spelling Numbers OpSpec) (F : Option TokenKind → Type 0) (form : Numbers → ℕ → Kinds → Reading OpSpec) (ending : ℕ) → IsForm Form F form ending
+    → (names : List (List ℕ)) (most : ℕ) (made : Operation) (tokens rest : Kinds) → length tokens < most → operation form ending names most tokens ≡ Ok (made, rest)
+    → WasRead Form ending names made tokens rest
+unfolding operation
+was_read Form F form ending is names most made tokens rest few e =
+    let a = bind_ok (form (number_ahead tokens) most tokens)
+    (λ op. expect_symbol ending op.1 >>= λ end. Ok ((op.0, arguments_in names (bag_inputs_of op.0) (run_of tokens)), end.1)) (made, rest) e in
+    let b = bind_ok (expect_symbol ending a.0.1) (λ end. Ok ((a.0.0, arguments_in names (bag_inputs_of a.0.0) (run_of tokens)), end.1)) (made, rest) a.2 in
+    let same : Path (Operation × Kinds) ((a.0.0, arguments_in names (bag_inputs_of a.0.0) (run_of tokens)), b.0.1) (made, rest) = ok_once _ _ b.2 in
+    let op_same : a.0.0 ≡ made.0 = ap (λ t. t.0.0) same in
+    let fits : Fits 0 most 0 most tokens = record { low = omega arith; deep = omega (arith, few); wide = few } in
+    let x : Read 0 Form (λ number left most. form number most) (number_ahead tokens) 0 most a.0.0 tokens a.0.1 = (is.reads 0 most).sound (number_ahead tokens) 0 most a.0.0 tokens a.0.1 fits a.1 in
+    let end : a.0.1 ≡ Symbol ending ∷ rest = symbol_read ending a.0.1 b.0.1 b.0.0 b.1 ∙ ap (λ t. Symbol ending ∷ t.1) same in
+    let cut : tokens ≡ x.used ++ Symbol ending ∷ rest = x.cut ∙ ap (λ back. x.used ++ back) end in
+    let run : run_of tokens ≡ x.used = ap run_of cut ∙ run_of-append x.used (Symbol ending) rest (is.in_run (number_ahead tokens) a.0.0 x.used x.spelled) is.ends_it in
+    let own : Form (own_number a.0.0 x.used) a.0.0 x.used
+    = with_own Form a.0.0 x.used tokens run (rw (sym x.cut) at (is.bags (number_ahead tokens) a.0.0 x.used a.0.1 x.spelled)) x.spelled in
+    record {
+      used = x.used;
+      cut = cut;
+      op_is = subst (λ o. Form (own_number o x.used) o x.used) op_same own;
+      args_are = sym (ap (λ t. t.0.1) same) ∙ ap (λ o. arguments_in names (bag_inputs_of o) (run_of tokens)) op_same ∙ ap (arguments_in names (bag_inputs_of made.0)) run;
+    }
+
+-- an operator and its end are read
+operation_complete : (top slack : ℕ) (Form : Spelling Numbers OpSpec) (F : Option TokenKind → Type 0) (form : Numbers → ℕ → Kinds → Reading OpSpec) (ending : ℕ) → IsForm Form F form ending
+    → (names : List (List ℕ)) (left most : ℕ) (made : Operation) (tokens after : Kinds) → Fits top slack left most tokens → Ended Form ending names made tokens
+    → operation form ending names most (tokens ++ after) ≡ Ok (made, after)
+operation_complete top slack Form F form ending is names left most made tokens after fits (with_end {op = op} {args = args} {tokens = front} x) =
+    ap (operation form ending names most) (append_assoc front (Symbol ending ∷ []) after)
+    ∙ operation_reads Form F form ending is names most op front after (fits_front top slack left most front (Symbol ending ∷ []) fits).wide x.form
+    ∙ ap (λ a. Ok ((op, a), after)) (sym x.over)
+
+-- an operator and its end that are read are spelled
+operation_sound : (top slack : ℕ) (Form : Spelling Numbers OpSpec) (F : Option TokenKind → Type 0) (form : Numbers → ℕ → Kinds → Reading OpSpec) (ending : ℕ) → IsForm Form F form ending
+    → (names : List (List ℕ)) (left most : ℕ) (made : Operation) (tokens rest : Kinds) → Fits top slack left most tokens → operation form ending names most tokens ≡ Ok (made, rest)
+    → Read top (Ended Form ending) (λ names left most. operation form ending names most) names left most made tokens rest
+operation_sound top slack Form F form ending is names left most made tokens rest fits e =
+    let x = was_read Form F form ending is names most made tokens rest fits.wide e in
+    let few : Fits top slack left most x.used = fits_front top slack left most x.used (Symbol ending ∷ rest) (rw x.cut at fits) in
+    record {
+      used = x.used ++ Symbol ending ∷ [];
+      cut = x.cut ∙ sym (append_assoc x.used (Symbol ending ∷ []) rest);
+      spelled = with_end (record { form = x.op_is; over = x.args_are });
+      again = λ q depth bound later larger same. (
+        (made.0, arguments_in q (bag_inputs_of made.0) x.used),
+        ap (operation form ending q bound) (append_assoc x.used (Symbol ending ∷ []) later)
+            ∙ operation_reads Form F form ending is q bound made.0 x.used later (omega (arith, few.wide, larger.wide)) x.op_is,
+      );
+    }
+
+-- the operator itself is not read
+operator_stuck : (top slack : ℕ) (Form : Spelling Numbers OpSpec) (F : Option TokenKind → Type 0) (form : Numbers → ℕ → Kinds → Reading OpSpec) (ending : ℕ) → IsForm Form F form ending
+    → (names : List (List ℕ)) (left most : ℕ) (tokens rest : Kinds) → Stuck top Form (λ number left most. form number most) (number_ahead tokens) left most tokens rest
+    → Stuck top (Ended Form ending) (λ names left most. operation form ending names most) names left most tokens rest
+unfolding operation
+operator_stuck top slack Form F form ending is names left most tokens rest x =
+    let y = viable Form F form ending is names (number_ahead tokens) x.value (x.front ++ x.more) x.spelled in
+    record {
+      front = x.front;
+      more = x.more ++ Symbol ending ∷ [];
+      value = y.0;
+      cut = x.cut;
+      spelled = subst (Ended Form ending names y.0) (append_assoc x.front x.more (Symbol ending ∷ [])) y.1;
+      again = λ q depth bound later larger same. rw (x.again (number_ahead (x.front ++ later)) depth bound later larger same) refl;
+    }
+
+-- the operator is read, and not the symbol behind it
+ending_stuck : (top slack : ℕ) (Form : Spelling Numbers OpSpec) (F : Option TokenKind → Type 0) (form : Numbers → ℕ → Kinds → Reading OpSpec) (ending : ℕ) → IsForm Form F form ending
+    → (names : List (List ℕ)) (left most : ℕ) (op : OpSpec) (tokens mid rest : Kinds) → Read top Form (λ number left most. form number most) (number_ahead tokens) left most op tokens mid
+    → Stuck {P = Unit {0}} top (SymbolOf ending) (λ p left most. expect_symbol ending) tt left most mid rest
+    → Stuck top (Ended Form ending) (λ names left most. operation form ending names most) names left most tokens rest
+unfolding operation
+ending_stuck top slack Form F form ending is names left most op tokens mid rest x y =
+    let z = viable Form F form ending is names (number_ahead tokens) op x.used x.spelled in
+    let symbol_is : y.front ++ y.more ≡ Symbol ending ∷ [] = one_is (λ (u : Unit {0}). Symbol ending) tt y.value (y.front ++ y.more) y.spelled in
+    record {
+      front = x.used ++ y.front;
+      more = y.more;
+      value = z.0;
+      cut = x.cut ∙ ap (λ back. x.used ++ back) y.cut ∙ sym (append_assoc x.used y.front rest);
+      spelled = subst (Ended Form ending names z.0) (ap (λ back. x.used ++ back) (sym symbol_is) ∙ sym (append_assoc x.used y.front y.more)) z.1;
+      again = λ q depth bound later larger same.
+          let all = x.used ++ (y.front ++ later) in
+          let same' : first_of (y.front ++ later) ≡ first_of mid = first_of-append y.front later rest same ∙ ap first_of (sym y.cut) in
+          let x' = x.again (number_ahead all) depth bound (y.front ++ later) larger same' in
+          rw (append_assoc x.used y.front later, x'.1, y.again tt depth bound later larger same) refl;
+    }
+
+-- where they are not read, some operator and its end begin so
+operation_stuck : (top slack : ℕ) (Form : Spelling Numbers OpSpec) (F : Option TokenKind → Type 0) (form : Numbers → ℕ → Kinds → Reading OpSpec) (ending : ℕ) → IsForm Form F form ending
+    → (names : List (List ℕ)) (left most : ℕ) (tokens rest : Kinds) → Fits top slack left most tokens → operation form ending names most tokens ≡ Err rest
+    → Stuck top (Ended Form ending) (λ names left most. operation form ending names most) names left most tokens rest
+unfolding operation
+operation_stuck top slack Form F form ending is names left most tokens rest fits e =
+    elim (bind_err (form (number_ahead tokens) most tokens)
+    (λ op. expect_symbol ending op.1 >>= λ end. Ok ((op.0, arguments_in names (bag_inputs_of op.0) (run_of tokens)), end.1)) rest e) [
+      | inl f ↦ operator_stuck top slack Form F form ending is names left most tokens rest ((is.reads top slack).stuck (number_ahead tokens) left most tokens rest fits f)
+      | inr a ↦
+          let x : Read top Form (λ number left most. form number most) (number_ahead tokens) left most a.0.0 tokens a.0.1
+          = (is.reads top slack).sound (number_ahead tokens) left most a.0.0 tokens a.0.1 fits a.1 in
+          elim (bind_err (expect_symbol ending a.0.1) (λ end. Ok ((a.0.0, arguments_in names (bag_inputs_of a.0.0) (run_of tokens)), end.1)) rest a.2) [
+            | inl f ↦ ending_stuck top slack Form F form ending is names left most a.0.0 tokens a.0.1 rest x
+                ((reads_symbol ending).stuck tt left most a.0.1 rest (fits_back top slack slack left most x.used a.0.1 (omega arith) (rw x.cut at fits)) f)
+            | inr b ↦ absurd (ok_or_err _ _ b.2)
+          ]
+    ]
+
+-- the reader of an operator and its end
+pub reads_operation : {top slack : ℕ} (Form : Spelling Numbers OpSpec) (F : Option TokenKind → Type 0) (form : Numbers → ℕ → Kinds → Reading OpSpec) (ending : ℕ) → IsForm Form F form ending
+    → IsReader top slack (Ended Form ending) Whatever (λ names left most. operation form ending names most)
+reads_operation {top = top} {slack = slack} Form F form ending is = record {
+  some = λ names. let x = (is.reads 0 0).some (λ name. 0) in let y = viable Form F form ending is names (λ name. 0) x.0 x.1 x.2 in (y.0, x.1 ++ Symbol ending ∷ [], y.1);
+  complete = λ names left most made tokens after fits x e. operation_complete top slack Form F form ending is names left most made tokens after fits x;
+  sound = operation_sound top slack Form F form ending is;
+  stuck = operation_stuck top slack Form F form ending is;
+}
