@@ -1,6 +1,4 @@
-mod Forms
-pub mod TokenLemmas
-pub mod ParseLemmas
-pub mod ScriptLemmas
-pub mod CallLemmas
-mod Variables
+pub mod WordLemmas
+pub mod DueLemmas
+pub mod EndLemmas
+pub mod ThinLemmas

@@ -1,7 +1,4 @@
-pub mod Scan
-pub mod Tokens
-pub mod Statements
-pub mod ThinText
+pub mod ThinScript
 pub mod Lines
 pub mod Due
 pub mod Refusals

@@ -2,6 +2,8 @@
 use Rattle.std.specs.Prelude.{ℕ, List, [], ◌∷◌, ◌++◌, codes, decimal}
 use Rattle.mit_ops.specs.declared.faults.FaultKind.{FaultKind}
 use Rattle.mit_ops.specs.declared.faults.FaultKind.TheVariants as kind
+use Rattle.mit_script.specs.declared.typed.CheckCode.{CheckCode}
+use Rattle.mit_script.specs.declared.typed.CheckCode.TheVariants as code
 
 -- a line of these parts
 abbrev pub line : List (List ℕ) → List ℕ
@@ -35,6 +37,24 @@ usage_line = line (codes "usage: mitos run|step|check|plan SCRIPT, or mitos demo
 
 abbrev pub absent_line : List ℕ → List ℕ
 absent_line name = line (codes "no such file: " ∷ name ∷ [])
+
+-- no script is spelled: the place of the refusal
+abbrev pub syntax_line : ℕ → List ℕ
+syntax_line place = line (codes "script refused: syntax at byte " ∷ decimal place ∷ [])
+
+abbrev pub code_words : CheckCode → List ℕ
+code_words code.Unassigned = codes "not assigned"
+code_words code.NotScalar = codes "not a scalar"
+code_words code.TooLarge = codes "too large"
+code_words code.TooManyColumns = codes "too many columns"
+code_words code.WrongType = codes "wrong type"
+
+-- a statement that the check refuses, and why
+abbrev pub rejected_line : ℕ → CheckCode → List ℕ
+rejected_line statement code = line (codes "script refused: statement " ∷ decimal statement ∷ codes ", " ∷ code_words code ∷ [])
+
+abbrev pub accepted_line : ℕ → List ℕ
+accepted_line count = line (codes "accepted, statements " ∷ decimal count ∷ [])
 
 abbrev pub not_thin_line : List ℕ
 not_thin_line = line (codes "script refused: not a thin script" ∷ [])

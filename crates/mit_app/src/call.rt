@@ -3,29 +3,32 @@ ghost use Rattle.mit_world.specs.Outside.{Continues, Rose};
 ghost use Rattle.mit_engine.specs.Printed.{Write, published};
 ghost use Rattle.mit_engine.specs.Staging.{published_in};
 ghost use Rattle.mit_engine.specs.declared.thin.ThinStep.{ThinStep};
-ghost use Rattle.mit_app.specs.Due.{Due, IsBeforeStaging, IsOutside, IsUsage, Publishes, PublishesAfresh, TellsOutbox, Verdict, status_of, text_of, texts};
+ghost use Rattle.mit_app.specs.Due.{Due, IsBeforeStaging, IsCheck, IsOutside, IsUsage, Publishes, PublishesAfresh, TellsOutbox, Verdict, status_of, text_of, texts};
 ghost use Rattle.mit_app.specs.Lines.{folder_line, usage_line};
-ghost use Rattle.mit_app.specs.Refusals.{EndsFor, IfLine, IfOutsideFails, IfUnstaged, refused_line, refused_status};
+ghost use Rattle.mit_app.specs.Refusals.{EndsFor, IfLine, IfOutsideFails, IfUnstaged, IsCheckTask, refused_line, refused_status};
+ghost use Rattle.mit_app.specs.declared.words.Task.TheVariants as task;
 
+use crate::inspect::inspect;
 use crate::lines::refusal;
 use crate::refused::Refused;
 use crate::run::{fetch, publish, run};
-use crate::words::script_of;
+use crate::words::{Task, command_of};
 use mit_engine::{Schedule, Seeded};
+use mit_parse::laws::one_reading;
 use mit_world::{Console, Folder, Outbox, OutsideStop};
 use std::alloc::Global;
 
 /// Runs the command that the words are, over this folder, outbox and console, and answers the program's status:
 ///
-/// - 0: the script's files are published, and the console has gained the report;
+/// - 0: the script's files are published, and the console has gained the report; or the script is accepted;
 /// - 1: the script is at fault;
-/// - 2: the words are not `run SCRIPT --parts 1` with a legal file name;
-/// - 3: the script is no thin script;
+/// - 2: the words are not `run SCRIPT --parts 1`, `check SCRIPT` or `check SCRIPT --print` with a legal file name;
+/// - 3: no script is spelled, the check refuses a statement, or the script cannot be run yet;
 /// - 4, 5, 6: the folder, the outbox or the console failed;
 /// - 7: memory ran out;
 /// - 9: the folder has no such script.
 ///
-/// At every status but 0 nothing is published, and one line tells why; at 6 and 7 it may be missing. Until it can be
+/// At every status but 0, and by a check, nothing is published, and one line tells why; at 6 and 7 it may be missing. Until it can be
 /// given, the seed of the schedule is 0.
 pub fn mitos<F: Folder, O: Outbox, C: Console>(
     alloc: Global,
@@ -52,6 +55,9 @@ pub fn mitos<F: Folder, O: Outbox, C: Console>(
     ensures unpublished { result ≢ 0 → published_in (O.held outbox.new) ≡ published_in (O.held outbox.old) }
     ensures uncalled { IsBeforeStaging result → outbox.new ≡ outbox.old }
 
+    // A check leaves the outbox as it was.
+    ensures checked { IsCheck (texts words.now) → outbox.new ≡ outbox.old }
+
     // Each fault of the outside has its cause in this call, and its line.
     ensures folder_failed { result ≡ 4 → Rose (F.faults folder.old) (F.faults folder.new) }
     ensures outbox_failed { result ≡ 5 → Rose (O.faults outbox.old) (O.faults outbox.new) }
@@ -75,15 +81,47 @@ pub fn mitos<F: Folder, O: Outbox, C: Console>(
     ensures outbox_count { O.faults outbox.old ≤ O.faults outbox.new }
     ensures console_count { C.faults console.old ≤ C.faults console.new }
 {
-    let Some(name) = script_of(words) else {
+    one_reading();
+    let Some((task, name)) = command_of(words) else {
         return tell(alloc, "", &Refused::Usage, console);
     };
-    let mut schedule = Seeded::new(alloc, 0);
-    let ended = attempt(alloc, name, &mut schedule, folder, outbox, console);
-    drop(schedule);
-    match ended {
+    match perform(alloc, task, name, folder, outbox, console) {
         Ok(()) => 0,
         Err(refused) => tell(alloc, name, &refused, console),
+    }
+}
+
+// Does the task with the script of this name.
+fn perform<F: Folder, O: Outbox, C: Console>(
+    alloc: Global,
+    task: Task,
+    name: &str,
+    folder: &mut F,
+    outbox: &mut O,
+    console: &mut C,
+) -> Result<(), Refused>
+    ensures ends { IfSome (F.files folder.old) (λ files. EndsFor task name.now files (O.held outbox.old) (O.held outbox.new)
+        (C.written console.old) (C.written console.new) result) }
+    ensures unpublished { OnErr result (published_in (O.held outbox.new) ≡ published_in (O.held outbox.old)) }
+    ensures uncalled { IfErr result (λ why. IfUnstaged why (outbox.new ≡ outbox.old)) }
+    ensures untold { IfErr result (λ why. IfUnstaged why (console.new ≡ console.old)) }
+    ensures checked { IsCheckTask task → outbox.new ≡ outbox.old }
+    ensures failed { IfErr result (λ why. IfOutsideFails why (Rose (F.faults folder.old) (F.faults folder.new))
+        (Rose (O.faults outbox.old) (O.faults outbox.new)) (Rose (C.faults console.old) (C.faults console.new))) }
+    ensures continues { Continues (C.written console.old) (C.written console.new) }
+    ensures told { F.files folder.new ≡ F.files folder.old }
+    ensures folder_count { F.faults folder.old ≤ F.faults folder.new }
+    ensures outbox_count { O.faults outbox.old ≤ O.faults outbox.new }
+    ensures console_count { C.faults console.old ≤ C.faults console.new }
+{
+    match task {
+        Task::Run => {
+            let mut schedule = Seeded::new(alloc, 0);
+            let ended = attempt(alloc, name, &mut schedule, folder, outbox, console);
+            drop(schedule);
+            ended
+        }
+        Task::Check { print } => inspect(alloc, name, print, folder, console),
     }
 }
 
@@ -96,7 +134,7 @@ pub(crate) fn attempt<S: Schedule, F: Folder, O: Outbox, C: Console>(
     outbox: &mut O,
     console: &mut C,
 ) -> Result<(), Refused>
-    ensures ends { IfSome (F.files folder.old) (λ files. EndsFor name.now files (O.held outbox.old) (O.held outbox.new)
+    ensures ends { IfSome (F.files folder.old) (λ files. EndsFor task.Run name.now files (O.held outbox.old) (O.held outbox.new)
         (C.written console.old) (C.written console.new) result) }
     ensures unpublished { OnErr result (published_in (O.held outbox.new) ≡ published_in (O.held outbox.old)) }
     ensures uncalled { IfErr result (λ why. IfUnstaged why (outbox.new ≡ outbox.old)) }

@@ -1,16 +1,13 @@
 //! Laws of the definitions on which the top call stands. Each is the contract of a function that does nothing.
 ghost use Rattle.std.specs.Prelude.{◌≡◌, ℕ, List};
 ghost use Rattle.mit_world.specs.Files.{FileMap};
-ghost use Rattle.mit_engine.specs.declared.thin.ThinStep.{ThinStep};
 ghost use Rattle.mit_app.specs.Due.{Due, Verdict};
-ghost use Rattle.mit_app.specs.ThinText.{IsThin};
 
-/// A text is a thin script of at most one list of statements.
-pub fn one_script()
-    ensures { (text : List ℕ) (a b : List ThinStep) → IsThin text a → IsThin text b → a ≡ b }
-{}
+use mit_parse::laws::one_reading;
 
 /// At most one verdict is due over the same words and files.
 pub fn one_verdict()
     ensures { (words : List (List ℕ)) (files : FileMap) (a b : Verdict) → Due words files a → Due words files b → a ≡ b }
-{}
+{
+    one_reading();
+}

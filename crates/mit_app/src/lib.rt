@@ -1,18 +1,15 @@
-//! The top call of Mitos: the words of a command line, the script, the run, and how it ends.
+//! The top call of Mitos: the words of a command line, the script, its check or its run, and how it ends.
 #![tactic(auto)]
 
 mod call;
+mod inspect;
 pub mod laws;
 mod lines;
-mod parse;
 mod refused;
 mod run;
-mod script;
 #[cfg(test)]
 mod tests;
-mod tokens;
+mod thin;
 mod words;
 
 pub use call::mitos;
-pub use script::read_thin;
-pub use tokens::ReadStop;

@@ -2,15 +2,20 @@ ghost use Rattle.std.specs.Prelude.{◌≡◌, ◌≤◌, ◌++◌, Some, IfOk, 
 ghost use Rattle.std.specs.FinMap as fin;
 ghost use Rattle.mit_world.specs.Outside.{Rose};
 ghost use Rattle.mit_engine.specs.Staging.{published_in};
+ghost use Rattle.mit_script.specs.Trees.{IsNumbered};
+ghost use Rattle.mit_parse.specs.Places.{IsSpelled};
 ghost use Rattle.mit_app.specs.Due.{PublishesAfresh};
 ghost use Rattle.mit_app.specs.Lines.{report_line};
-ghost use Rattle.mit_app.specs.Refusals.{IfOutsideFails, PublishingStops, RefusesFor, RunsFor};
+ghost use Rattle.mit_app.specs.Refusals.{IfAbsent, IfOutsideFails, PublishingStops, RefusesText, RunsFor};
+ghost use Rattle.mit_app.specs.declared.words.Task.TheVariants as task;
 
 use crate::lines::report;
 use crate::refused::Refused;
-use crate::script::read_thin;
-use crate::tokens::ReadStop;
+use crate::thin::thin_of;
+use mit_check::{CheckStop, check};
 use mit_engine::{Done, Schedule, Stop, run_thin, stage_all};
+use mit_parse::{ParseStop, parse};
+use mit_script::Typed;
 use mit_world::{Console, Folder, Outbox, OutsideStop};
 use std::alloc::Global;
 
@@ -21,7 +26,7 @@ pub(crate) fn fetch<F: Folder>(
     folder: &mut F,
 ) -> Result<Vec<u8>, Refused>
     ensures text { IfSome (F.files folder.old) (λ files. IfOk result (λ text. fin.get files name.now ≡ Some text.items)) }
-    ensures due { IfSome (F.files folder.old) (λ files. IfErr result (λ why. RefusesFor name.now files why)) }
+    ensures absent { IfSome (F.files folder.old) (λ files. IfErr result (λ why. IfAbsent why (fin.get files name.now ≡ None))) }
     ensures failed { IfErr result (λ why. IfOutsideFails why (Rose (F.faults folder.old) (F.faults folder.new)) ⊥ ⊥) }
     ensures told { F.files folder.new ≡ F.files folder.old }
     ensures count { F.faults folder.old ≤ F.faults folder.new }
@@ -35,6 +40,24 @@ pub(crate) fn fetch<F: Folder>(
     }
 }
 
+/// The accepted script of a text.
+pub(crate) fn accepted(alloc: Global, text: &[u8]) -> Result<Typed, Refused>
+    ensures spelled { IfOk result (λ typed. IsSpelled text.now typed.script) }
+    ensures numbered { IfOk result (λ typed. IsNumbered typed.script) }
+    ensures refused { IfErr result (RefusesText text.now) }
+{
+    let script = match parse(alloc, text) {
+        Ok(script) => script,
+        Err(ParseStop::Fault { place }) => return Err(Refused::Misspelled(place)),
+        Err(ParseStop::NoMemory) => return Err(Refused::NoMemory),
+    };
+    match check(alloc, script) {
+        Ok(typed) => Ok(typed),
+        Err(CheckStop::Fault { statement, code }) => Err(Refused::Rejected { statement, code }),
+        Err(CheckStop::NoMemory) => Err(Refused::NoMemory),
+    }
+}
+
 /// What a run of the script under this schedule leaves.
 pub(crate) fn run<S: Schedule, F: Folder>(
     alloc: Global,
@@ -42,15 +65,19 @@ pub(crate) fn run<S: Schedule, F: Folder>(
     schedule: &mut S,
     folder: &mut F,
 ) -> Result<Done, Refused>
-    ensures due { IfSome (F.files folder.old) (λ files. RunsFor text.now files result) }
+    ensures due { IfSome (F.files folder.old) (λ files. RunsFor task.Run text.now files result) }
     ensures failed { IfErr result (λ why. IfOutsideFails why (Rose (F.faults folder.old) (F.faults folder.new)) ⊥ ⊥) }
     ensures told { F.files folder.new ≡ F.files folder.old }
     ensures count { F.faults folder.old ≤ F.faults folder.new }
 {
-    let script = match read_thin(alloc, text) {
-        Ok(script) => script,
-        Err(ReadStop::NotThin) => return Err(Refused::NotThin),
-        Err(ReadStop::NoMemory) => return Err(Refused::NoMemory),
+    let typed = match accepted(alloc, text) {
+        Ok(typed) => typed,
+        Err(refused) => return Err(refused),
+    };
+    let script = match thin_of(alloc, typed.script()) {
+        Ok(Some(script)) => script,
+        Ok(None) => return Err(Refused::NotThin),
+        Err(_) => return Err(Refused::NoMemory),
     };
     match run_thin(alloc, &script, folder, schedule) {
         Ok(done) => Ok(done),

@@ -1,4 +1,3 @@
 mod call;
-mod parse;
 mod schedules;
-mod tokens;
+mod thin;
