@@ -7,7 +7,8 @@ use Rattle.mit_ops.specs.declared.types.VarType.{VarType}
 use Rattle.mit_script.specs.Accepted.{checked}
 use Rattle.mit_script.specs.declared.tree.Script.{Script}
 use Rattle.mit_script.specs.declared.typed.CheckCode.{CheckCode}
-use Rattle.mit_parse.specs.Places.{IsRefusedAt, IsSpelled}
+use Rattle.mit_parse.specs.Places.{IsRefusedAt}
+use Rattle.mit_script.specs.Grammar.{IsSpelled}
 use Rattle.mit_app.specs.Due.{Accepted, Due, DueFor, Found, IsCommand, IsFound, IsUsage, Misspelled, Missing, Rejected, TextIs, Usage, Verdict, verdict_for}
 use Rattle.mit_app.specs.declared.words.Task.{Task}
 use Rattle.mit_app.specs.declared.words.Task.TheVariants.{Run, Check}

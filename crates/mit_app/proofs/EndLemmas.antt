@@ -10,7 +10,7 @@ use Rattle.mit_script.specs.Accepted.{checked}
 use Rattle.mit_script.specs.Printed.{printed}
 use Rattle.mit_script.specs.Trees.{statements_of}
 use Rattle.mit_script.specs.declared.tree.Script.{Script}
-use Rattle.mit_parse.specs.Places.{IsSpelled}
+use Rattle.mit_script.specs.Grammar.{IsSpelled}
 use Rattle.mit_engine.specs.Job.{AnswersOver}
 use Rattle.mit_engine.specs.Printed.{Write, published}
 use Rattle.mit_engine.specs.Thin.{Faulted, Finished, actions_of, exec}
@@ -332,8 +332,7 @@ pub ended_run : (text : List ℕ) (told : Option FileMap) (script : Script) (typ
     → thin_steps script ≡ Some steps → AnswersOver steps told (Ok done) → IfSome told (λ files. RunsFor Run text files (Ok done))
 ended_run text None script types steps done spelled accepted thin answer = tt
 ended_run text (Some files) script types steps done spelled accepted thin answer =
-    let is = ap (λ m. exec m steps) (sym answer.1) ∙ answer.2.1 in
-    (
+    let is = ap (λ m. exec m steps) (sym answer.1) ∙ answer.2.1 in (
       steps,
       answer.2.0,
       accepted_due text files script types (Some steps) (Publishes steps answer.2.0) spelled accepted thin (ap (ended steps) is),
@@ -371,8 +370,7 @@ pub published_ends : (name text slice : List ℕ) (told told' : Option FileMap) 
     → IfSome told (λ files. EndsFor Run name files held later old new (Ok u))
 published_ends name text slice None told' held later old new done u same is got ran publishes report = tt
 published_ends name text slice (Some files) told' held later old new done u same is got ran publishes report =
-    let run = ran_over text slice files told' done same is ran in
-    (
+    let run = ran_over text slice files told' done same is ran in (
       Publishes run.0 run.1,
       found_there Run name text files (Publishes run.0 run.1) got run.2,
       refl,
@@ -396,8 +394,7 @@ stopped_publishing name text slice (Some files) told' held later old new done re
     by (why.Fault fault) s = absurd s
     by why.Folder s = absurd s
     by why.Outbox s =
-        let run = ran_over text slice files told' done same is ran in
-        (
+        let run = ran_over text slice files told' done same is ran in (
           Publishes run.0 run.1,
           found_there Run name text files (Publishes run.0 run.1) got run.2,
           refl,

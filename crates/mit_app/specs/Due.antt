@@ -11,7 +11,8 @@ use Rattle.mit_script.specs.Printed.{printed}
 use Rattle.mit_script.specs.Trees.{statements_of}
 use Rattle.mit_script.specs.declared.tree.Script.{Script}
 use Rattle.mit_script.specs.declared.typed.CheckCode.{CheckCode}
-use Rattle.mit_parse.specs.Places.{IsRefusedAt, IsSpelled}
+use Rattle.mit_parse.specs.Places.{IsRefusedAt}
+use Rattle.mit_script.specs.Grammar.{IsSpelled}
 use Rattle.mit_engine.specs.Names.{IsLegal}
 use Rattle.mit_engine.specs.Printed.{Write, published}
 use Rattle.mit_engine.specs.Thin.{Ending, Faulted, Finished, actions_of, exec}

@@ -3,7 +3,7 @@ ghost use Rattle.std.specs.FinMap as fin;
 ghost use Rattle.mit_world.specs.Outside.{Rose};
 ghost use Rattle.mit_engine.specs.Staging.{published_in};
 ghost use Rattle.mit_script.specs.Trees.{IsNumbered};
-ghost use Rattle.mit_parse.specs.Places.{IsSpelled};
+ghost use Rattle.mit_script.specs.Grammar.{IsSpelled};
 ghost use Rattle.mit_app.specs.Due.{PublishesAfresh};
 ghost use Rattle.mit_app.specs.Lines.{report_line};
 ghost use Rattle.mit_app.specs.Refusals.{IfAbsent, IfOutsideFails, PublishingStops, RefusesText, RunsFor};

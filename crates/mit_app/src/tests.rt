@@ -1,3 +1,5 @@
 mod call;
+mod check;
 mod schedules;
 mod thin;
+mod world;

@@ -1,7 +1,7 @@
 -- How a loop reads a text piece by piece.
 use Rattle.std.proofs.Common.{◌≡◌, ℕ, zero, suc, ◌+◌, ◌-◌, ◌<◌, ◌≤◌, true, false, List, [], ◌∷◌, ◌++◌, length, get_or, drop, Option, Some, None, Result, Ok, Err, refl, sym, ap, subst, ◌∙◌, arith, add-zero, inl, inr, ltb}
 use Rattle.std.specs.Option.{option_or}
-use Rattle.std.proofs.lemmas.List.{append_assoc, append-nil, drop-drop, drop_all, drop_more, length-drop}
+use Rattle.std.proofs.lemmas.List.{append_assoc, append-nil, drop-drop, drop_all, drop_more, length-append, length-drop}
 use Rattle.std.proofs.lemmas.Bool.{cases_Bool}
 use Rattle.std.proofs.lemmas.Bool.Decides.{nat_tests}
 use Rattle.std.proofs.lemmas.Str.{IsUtf8-from_is_utf8, is_utf8-from_IsUtf8}
@@ -161,3 +161,7 @@ whole_is text short good =
 
 pub tells : (found other : Result (List Token) ℕ) (stop : LexStop) → found ≡ other → TellsPlace found stop → TellsPlace other stop
 tells found other stop same told = subst (λ (from : Result (List Token) ℕ). TellsPlace from stop) same told
+
+-- one token more, and at least one byte
+pub count_more : (tokens : List Token) (token : Token) (at size : ℕ) → length tokens ≤ at → 0 < size → length (tokens ++ token ∷ []) ≤ at + size
+count_more tokens token at size few some = omega (arith, length-append tokens (token ∷ []), few, some)

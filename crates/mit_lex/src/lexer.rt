@@ -1,4 +1,4 @@
-ghost use Rattle.std.specs.Prelude.{◌≡◌, ◌≤◌, Ok, Err, length, All, IfOk, IfErr};
+ghost use Rattle.std.specs.Prelude.{◌≡◌, ◌≤◌, Ok, Err, length, All, IfOk, IfErr, OnOk};
 ghost use Rattle.mit_lex.specs.Tokens.{TellsPlace, lexed, scanned, tokens_of};
 ghost use Rattle.mit_lex.specs.Valid.{IsToken};
 
@@ -21,6 +21,8 @@ const MAX_SCRIPT: usize = 1_048_576;
 /// themselves; and a `{` where 64 braces are open.
 pub fn tokens(alloc: Global, text: &[u8]) -> Result<Vec<Token>, LexStop>
     ensures tokens { IfOk result (λ tokens. tokens_of text.now ≡ Ok tokens.items) }
+    ensures count { IfOk result (λ tokens. length tokens.items ≤ length text.now) }
+    ensures short { OnOk result (length text.now ≤ 1048576) }
     ensures fault { IfErr result (λ stop. TellsPlace (tokens_of text.now) stop) }
     ensures valid { IfOk result (λ tokens. All (λ token. IsToken token.kind) tokens.items) }
 {
@@ -41,6 +43,7 @@ pub fn tokens(alloc: Global, text: &[u8]) -> Result<Vec<Token>, LexStop>
 fn scan(alloc: Global, text: &str) -> Result<Vec<Token>, LexStop>
     requires { length text.now ≤ MAX_SCRIPT }
     ensures tokens { IfOk result (λ tokens. lexed (scanned 0 0 text.now) ≡ Ok tokens.items) }
+    ensures count { IfOk result (λ tokens. length tokens.items ≤ length text.now) }
     ensures fault { IfErr result (λ stop. TellsPlace (lexed (scanned 0 0 text.now)) stop) }
 {
     let mut tokens = Vec::new(alloc);

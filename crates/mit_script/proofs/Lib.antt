@@ -22,6 +22,7 @@ pub mod StmtOperation
 pub mod StmtForms
 pub mod StmtBodies
 pub mod ScriptReading
+pub mod BagArguments
 pub mod PrintWords
 pub mod PrintNames
 pub mod PrintExprs

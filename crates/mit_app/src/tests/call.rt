@@ -1,7 +1,5 @@
-use crate::mitos;
-use mit_world::{Files, MemConsole, MemFolder, MemOutbox};
+use super::world::{Fails, Left, SOUND, call, files_with, repeated};
 use std::alloc::Global;
-use std::fmt::Write;
 use std::test::Fail;
 
 /// The words of a command over the script `s`.
@@ -13,96 +11,8 @@ const TWICE: &[u8] = b"a = read \"in\" (int);\nb = union a, a;\nwrite b to \"out
 /// The report of the union of a file with itself.
 const REPORT: &str = "files 1, blocks 1, actions 10\n";
 
-/// The line of a script that is refused.
+/// The line of a script that cannot be run yet.
 const NOT_THIN: &str = "script refused: not a thin script\n";
-
-/// The numbers of the calls that fail.
-#[derive(Clone, Copy)]
-struct Fails<'a> {
-    folder: &'a [u64],
-    outbox: &'a [u64],
-    console: &'a [u64],
-}
-
-/// No call fails.
-const SOUND: Fails<'static> = Fails {
-    folder: &[],
-    outbox: &[],
-    console: &[],
-};
-
-/// What a call leaves: files are shown one after another, each as its name, `=` and its bytes.
-#[derive(Drop)]
-struct Left {
-    status: u8,
-    console: String,
-    published: Option<String>,
-    staged: String,
-    reads: u64,
-    outbox_calls: u64,
-}
-
-impl Left {
-    /// The status and the console, where nothing is published or staged.
-    fn refusal(&self) -> Option<(u8, &str)> {
-        if self.published.is_some() || !self.staged.is_empty() {
-            return None;
-        }
-        Some((self.status, self.console.as_str()))
-    }
-
-    /// What is published at status 0.
-    fn success(&self) -> Option<&str> {
-        if self.status != 0 {
-            return None;
-        }
-        self.published.as_deref()
-    }
-}
-
-/// Calls `mitos` over these files, with words between which one space stands; none are the empty text.
-fn call(alloc: Global, words: &str, files: Files, fails: Fails<'_>) -> Result<Left, Fail> {
-    let mut owned = Vec::new(alloc);
-    if !words.is_empty() {
-        for word in words.split(' ') {
-            owned.push(String::from_str(alloc, word)?)?;
-        }
-    }
-    let mut folder = MemFolder::new(files, fails.folder.to_vec(alloc)?);
-    let mut outbox = MemOutbox::new(alloc, fails.outbox.to_vec(alloc)?);
-    let mut console = MemConsole::new(alloc, fails.console.to_vec(alloc)?);
-    let status = mitos(alloc, &owned, &mut folder, &mut outbox, &mut console);
-    let published = match outbox.published() {
-        Some(files) => Some(shown(alloc, files)?),
-        None => None,
-    };
-    Ok(Left {
-        status,
-        console: String::from_str(alloc, str::from_utf8(console.bytes())?)?,
-        published,
-        staged: shown(alloc, outbox.staged())?,
-        reads: folder.calls(),
-        outbox_calls: outbox.calls(),
-    })
-}
-
-/// The script `s` and the files `in`, of two rows, and `pairs`, of one.
-fn files_with(alloc: Global, script: &[u8]) -> Result<Files, Fail> {
-    let mut files = Files::new(alloc);
-    files.put("s", script)?;
-    files.put("in", b"2\n1\n")?;
-    files.put("pairs", b"1,2\n")?;
-    Ok(files)
-}
-
-fn shown(alloc: Global, files: &Files) -> Result<String, Fail> {
-    let mut shown = String::new(alloc);
-    for place in 0..files.len() {
-        let bytes = str::from_utf8(files.bytes_at(place))?;
-        write!(shown, "{}={bytes}", files.name_at(place))?;
-    }
-    Ok(shown)
-}
 
 /// Calls `mitos` for this script.
 fn call_script(alloc: Global, script: &[u8]) -> Result<Left, Fail> {
@@ -119,8 +29,10 @@ fn call_copy(alloc: Global, types: &str, bytes: &[u8]) -> Result<Left, Fail> {
 
 #[test]
 fn scripts_publish_their_files(rt: HostRuntime) -> Result<(), Fail> {
-    let cases: [(&[u8], &str, &str); 5] = [
+    let copied = "files 1, blocks 1, actions 6\n";
+    let cases: [(&[u8], &str, &str); 9] = [
         (b"", "", "files 0, blocks 1, actions 0\n"),
+        (b"# nothing", "", "files 0, blocks 1, actions 0\n"),
         (b" \t\r\n", "", "files 0, blocks 1, actions 0\n"),
         (TWICE, "out=1\n1\n2\n2\n", REPORT),
         (
@@ -132,6 +44,21 @@ fn scripts_publish_their_files(rt: HostRuntime) -> Result<(), Fail> {
             b"a = read \"in\" (int); b = union a, a; write b to \"out\"; write a to \"out\";",
             "out=1\n2\n",
             "files 1, blocks 1, actions 13\n",
+        ),
+        (
+            b"a = read \"in\" (int); # a comment\n",
+            "",
+            "files 0, blocks 1, actions 3\n",
+        ),
+        (
+            b"# in\na = read (\"in\") # )\n(int); write a to ((\"out\"));#",
+            "out=1\n2\n",
+            copied,
+        ),
+        (
+            b"a = read \"pairs\" (int, int); write a to \"row\";",
+            "row=1,2\n",
+            copied,
         ),
     ];
     for (script, published, console) in cases {
@@ -211,14 +138,28 @@ fn other_words_are_no_command(rt: HostRuntime) -> Result<(), Fail> {
         "run a/b --parts 1",
         "run .a --parts 1",
         "run  --parts 1",
-        "check s",
+        "run s --print",
+        "check",
+        "check ",
+        "check s ",
+        "check s t",
+        "check a/b",
+        "check .s --print",
+        "check s print",
+        "check --print s",
+        "check --print",
+        "check s --print=1",
+        "check s --print --print",
+        "check s --parts 1",
+        "Check s",
+        "plan s",
+        "step s",
         "demo 1",
     ];
     for words in cases {
         let left = call(rt.alloc(), words, files_with(rt.alloc(), TWICE)?, SOUND)?;
-        assert_eq!(rt; left.refusal(), Some((2, usage)), "{words}");
+        assert_eq!(rt; left.told(), Some((2, usage)), "{words}");
         assert_eq!(rt; left.reads, 0, "{words}");
-        assert_eq!(rt; left.outbox_calls, 0, "{words}");
     }
     Ok(())
 }
@@ -227,47 +168,130 @@ fn other_words_are_no_command(rt: HostRuntime) -> Result<(), Fail> {
 fn a_script_has_to_be_there(rt: HostRuntime) -> Result<(), Fail> {
     let files = files_with(rt.alloc(), TWICE)?;
     let left = call(rt.alloc(), "run t --parts 1", files, SOUND)?;
-    assert_eq!(rt; left.refusal(), Some((9, "no such file: t\n")));
+    assert_eq!(rt; left.told(), Some((9, "no such file: t\n")));
     Ok(())
 }
 
 #[test]
 fn other_scripts_are_refused(rt: HostRuntime) -> Result<(), Fail> {
-    let cases: [&[u8]; 30] = [
-        b"a = 1;",
-        b"a",
-        b";",
-        b"write a to \"out\";",
-        b"b = union a, a; a = read \"in\" (int);",
-        b"a = read \"in\" (int); b = union a, c;",
-        b"a = read \"in\" (int); b = union b, a;",
-        b"a = read \"in\" (int); write A to \"out\";",
-        b"a = read \"in\" (int); b = read \"pairs\" (int, int); c = union a, b;",
-        b"a = read \"in\" (int); b = read \"pairs\" (int, int); c = union b, a;",
-        b"a = read \"in\" (int); a = read \"pairs\" (int, int);",
-        b"a = read \"pairs\" (int, int); b = read \"in\" (int); a = union b, b;",
-        b"a = read \"in\" (int)",
-        b"a = read \"in\" (int) write a to \"out\";",
-        b"a = read \"in\" (int); write a to \"out\"",
-        b"a = read \"in\" (int);;",
-        b"union = read \"in\" (int);",
-        b"row = read \"in\" (int);",
-        b"1a = read \"in\" (int);",
-        b"a = read \"a/b\" (int);",
-        b"a = read \"\" (int);",
-        b"a = read \"in\" (int); write a to \".out\";",
-        b"a = read \"in\" (int); write a to out;",
-        b"a = read \"in\" (int); // a comment\n",
-        b"a = read \"in\" (int); # a comment\n",
-        b"a = read \"in\" (text);",
-        b"a = read \"in\" (int, bool);",
-        b"a = read \"in\" (int,);",
-        b"a == read \"in\" (int);",
-        b"a = read \"in\" (int); \xff",
+    let cases: [(&[u8], &str); 38] = [
+        (b"a = 1;", NOT_THIN),
+        (b"a", "script refused: syntax at byte 1\n"),
+        (b";", "script refused: syntax at byte 0\n"),
+        (
+            b"write a to \"out\";",
+            "script refused: statement 1, not assigned\n",
+        ),
+        (
+            b"b = union a, a; a = read \"in\" (int);",
+            "script refused: statement 1, not assigned\n",
+        ),
+        (
+            b"a = read \"in\" (int); b = union a, c;",
+            "script refused: statement 2, not assigned\n",
+        ),
+        (
+            b"a = read \"in\" (int); b = union b, a;",
+            "script refused: statement 2, not assigned\n",
+        ),
+        (
+            b"a = read \"in\" (int); write A to \"out\";",
+            "script refused: statement 2, not assigned\n",
+        ),
+        (
+            b"a = read \"in\" (int); b = read \"pairs\" (int, int); c = union a, b;",
+            "script refused: statement 3, wrong type\n",
+        ),
+        (
+            b"a = read \"in\" (int); b = read \"pairs\" (int, int); c = union b, a;",
+            "script refused: statement 3, wrong type\n",
+        ),
+        (
+            b"a = read \"in\" (int); a = read \"pairs\" (int, int);",
+            "script refused: statement 2, wrong type\n",
+        ),
+        (
+            b"a = read \"pairs\" (int, int); b = read \"in\" (int); a = union b, b;",
+            "script refused: statement 3, wrong type\n",
+        ),
+        (
+            b"a = read \"in\" (int)",
+            "script refused: syntax at byte 19\n",
+        ),
+        (
+            b"a = read \"in\" (int) write a to \"out\";",
+            "script refused: syntax at byte 20\n",
+        ),
+        (
+            b"a = read \"in\" (int); write a to \"out\"",
+            "script refused: syntax at byte 37\n",
+        ),
+        (
+            b"a = read \"in\" (int);;",
+            "script refused: syntax at byte 20\n",
+        ),
+        (
+            b"union = read \"in\" (int);",
+            "script refused: syntax at byte 0\n",
+        ),
+        (
+            b"row = read \"in\" (int);",
+            "script refused: syntax at byte 0\n",
+        ),
+        (
+            b"1a = read \"in\" (int);",
+            "script refused: syntax at byte 0\n",
+        ),
+        (b"a = read \"a/b\" (int);", NOT_THIN),
+        (b"a = read \"\" (int);", NOT_THIN),
+        (b"a = read \"in\" (int); write a to \".out\";", NOT_THIN),
+        (b"a = read \"in\" (int); write a to \"o\\tut\";", NOT_THIN),
+        (
+            b"a = read \"in\" (int); write a to \"o\" ++ \"ut\";",
+            NOT_THIN,
+        ),
+        (
+            b"n = \"out\"; a = read \"in\" (int); write a to n;",
+            NOT_THIN,
+        ),
+        (
+            b"a = read \"in\" (int); write a to out;",
+            "script refused: statement 2, not assigned\n",
+        ),
+        (
+            b"a = read \"in\" (int); // a comment\n",
+            "script refused: syntax at byte 21\n",
+        ),
+        (b"a = read \"in\" (text);", NOT_THIN),
+        (b"a = read \"in\" (int, bool);", NOT_THIN),
+        (
+            b"a = read \"in\" (int,);",
+            "script refused: syntax at byte 19\n",
+        ),
+        (
+            b"a == read \"in\" (int);",
+            "script refused: syntax at byte 2\n",
+        ),
+        (
+            b"a = read \"in\" (int); \xff",
+            "script refused: syntax at byte 21\n",
+        ),
+        (b"a = read \"in\" (int); b = a;", NOT_THIN),
+        (b"a = read \"in\" (int); b = distinct a;", NOT_THIN),
+        (b"a = read \"in\" (int); if true { }", NOT_THIN),
+        (b"while false { }", NOT_THIN),
+        (
+            b"a = 1; b = c;",
+            "script refused: statement 2, not assigned\n",
+        ),
+        (
+            b"a = 1; write b to \"b\"; $99",
+            "script refused: syntax at byte 23\n",
+        ),
     ];
-    for script in cases {
+    for (script, line) in cases {
         let left = call_script(rt.alloc(), script)?;
-        assert_eq!(rt; left.refusal(), Some((3, NOT_THIN)));
+        assert_eq!(rt; left.told(), Some((3, line)));
     }
     Ok(())
 }
@@ -275,57 +299,66 @@ fn other_scripts_are_refused(rt: HostRuntime) -> Result<(), Fail> {
 #[test]
 fn a_script_has_at_most_1000_statements(rt: HostRuntime) -> Result<(), Fail> {
     let mut script = String::from_str(rt.alloc(), "a=read\"in\"(int);")?;
-    for _ in 1..1000 {
-        script.push_str("write a to\"out\";")?;
-    }
+    script.push_str(repeated(rt.alloc(), "write a to\"out\";", 999)?.as_str())?;
     let left = call_script(rt.alloc(), script.as_bytes())?;
     assert_eq!(rt; left.success(), Some("out=1\n2\n"));
     script.push_str("write a to\"out\";")?;
     let left = call_script(rt.alloc(), script.as_bytes())?;
-    assert_eq!(rt; left.refusal(), Some((3, NOT_THIN)));
+    assert_eq!(rt; left.told(), Some((3, NOT_THIN)));
     Ok(())
 }
 
 #[test]
-fn a_script_has_at_most_65536_bytes(rt: HostRuntime) -> Result<(), Fail> {
+fn a_script_has_at_most_1048576_bytes(rt: HostRuntime) -> Result<(), Fail> {
     let mut script = TWICE.to_vec(rt.alloc())?;
-    script.resize(65_536, b' ')?;
+    script.resize(1_048_576, b' ')?;
     let left = call_script(rt.alloc(), &script)?;
     assert_eq!(rt; left.success(), Some("out=1\n1\n2\n2\n"));
     script.push(b' ')?;
     let left = call_script(rt.alloc(), &script)?;
-    assert_eq!(rt; left.refusal(), Some((3, NOT_THIN)));
+    assert_eq!(rt;
+        left.told(),
+        Some((3, "script refused: syntax at byte 1048576\n"))
+    );
     Ok(())
 }
 
 #[test]
 fn a_name_has_at_most_64_bytes(rt: HostRuntime) -> Result<(), Fail> {
-    for (length, status) in [(1, 0), (64, 0), (65, 3)] {
-        let mut script = String::new(rt.alloc());
-        for _ in 0..length {
-            script.push('n')?;
-        }
+    let read = "files 0, blocks 1, actions 3\n";
+    let refused = "script refused: syntax at byte 0\n";
+    for (length, status, line) in [(1, 0, read), (64, 0, read), (65, 3, refused)] {
+        let mut script = repeated(rt.alloc(), "n", length)?;
         script.push_str(" = read \"in\" (int);")?;
         let left = call_script(rt.alloc(), script.as_bytes())?;
         assert_eq!(rt; left.status, status, "{length} bytes");
+        assert_eq!(rt; left.console.as_str(), line, "{length} bytes");
     }
     Ok(())
 }
 
 #[test]
 fn a_read_has_1_to_16_columns(rt: HostRuntime) -> Result<(), Fail> {
-    for (columns, status) in [(0, 3), (1, 0), (2, 0), (16, 0), (17, 3), (300, 3)] {
-        let mut types = String::new(rt.alloc());
-        let mut row = String::new(rt.alloc());
-        for column in 0..columns {
-            types.push_str(if column == 0 { "int" } else { ", int" })?;
-            row.push_str(if column == 0 { "7" } else { ",7" })?;
-        }
+    for more in [0, 1, 15] {
+        let types = format!(in rt.alloc(); "int{}", repeated(rt.alloc(), ", int", more)?)?;
+        let row = format!(in rt.alloc(); "7{}\n", repeated(rt.alloc(), ",7", more)?)?;
         let left = call_copy(rt.alloc(), &types, row.as_bytes())?;
-        assert_eq!(rt; left.status, status, "{columns} columns");
-        if let Some(published) = left.success() {
-            assert_eq!(rt; published, format!(in rt.alloc(); "u={row}\n")?.as_str());
-        }
+        let rows = left.success().and_then(|u| u.strip_prefix("u="));
+        assert_eq!(rt; rows, Some(row.as_str()), "{more} more");
+    }
+    let left = call_copy(rt.alloc(), "", b"")?;
+    assert_eq!(rt;
+        left.told(),
+        Some((3, "script refused: syntax at byte 14\n"))
+    );
+    for (more, why) in [
+        (16, "statement 1, too many columns"),
+        (299, "syntax at byte 642"),
+    ] {
+        let types = format!(in rt.alloc(); "int{}", repeated(rt.alloc(), ", int", more)?)?;
+        let left = call_copy(rt.alloc(), &types, b"")?;
+        let line = format!(in rt.alloc(); "script refused: {why}\n")?;
+        assert_eq!(rt; left.told(), Some((3, line.as_str())), "{more} more");
     }
     Ok(())
 }
@@ -360,7 +393,7 @@ fn faults_are_told_by_statement(rt: HostRuntime) -> Result<(), Fail> {
     ];
     for (script, line) in cases {
         let left = call_script(rt.alloc(), script)?;
-        assert_eq!(rt; left.refusal(), Some((1, line)));
+        assert_eq!(rt; left.told(), Some((1, line)));
     }
     Ok(())
 }
@@ -391,7 +424,7 @@ fn bad_records_are_told_by_their_numbers(rt: HostRuntime) -> Result<(), Fail> {
             "fault: statement 1, decisions 0, bad record {number}\n"
         )?;
         let left = call_copy(rt.alloc(), columns, bytes)?;
-        assert_eq!(rt; left.refusal(), Some((1, line.as_str())));
+        assert_eq!(rt; left.told(), Some((1, line.as_str())));
     }
     Ok(())
 }

@@ -1,4 +1,5 @@
-use Rattle.std.proofs.Common.{◌≡◌, ap, sym, ◌∙◌, arith, Err}
+use Rattle.std.proofs.Common.{◌≡◌, ◌≤◌, ap, sym, subst, length, ◌∙◌, arith, Err}
+use Rattle.std.specs.Prelude.{IfOk}
 use Rattle.std.proofs.lemmas.Result.{IfErr-weaker, IfOk-weaker}
 use Rattle.mit_lex.specs.Tokens.{lexed, scanned, tokens_of}
 use Rattle.mit_lex.proofs.ScanFacts.{no_text, tells, too_long, whole_is}
@@ -33,3 +34,6 @@ returns-in-Ok-clause-valid c =
     let same : tokens_of text ≡ lexed (scanned 0 0 c.in-Ok.text.now) =
     whole_is text (omega arith) c.in-Ok.ensures.cases.1 ∙ sym (ap (λ bytes. lexed (scanned 0 0 bytes)) c.in-Ok.ensures.cases.0) in
     IfOk-weaker c.scan.result _ _ (λ tokens is. tokens_valid text tokens.items (same ∙ is)) c.scan.ensures.tokens
+
+pub returns-in-Ok-clause-count : goal.returns-in-Ok-clause-count
+returns-in-Ok-clause-count c = subst (λ bytes. IfOk c.scan.result (λ tokens. length tokens.items ≤ length bytes)) c.in-Ok.ensures.cases.0 c.scan.ensures.count

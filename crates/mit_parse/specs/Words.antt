@@ -1,0 +1,16 @@
+-- Names that are borrowed from tokens, and the end of an operator.
+use Rattle.std.specs.Prelude.{ℕ, List, map, Ok}
+use Rattle.std.specs.Borrow.{Bor}
+use Rattle.mit_ops.specs.Kinds.{bag_inputs_of}
+use Rattle.mit_ops.specs.declared.kinds.OpSpec.{OpSpec}
+use Rattle.mit_script.specs.Grammar.{Kinds, arguments_in}
+use Rattle.mit_script.specs.Reading.{◌>>=◌, Operation, Reading, expect_symbol, run_of}
+
+-- the bytes of each of them
+abbrev pub words_of : List (Bor (List ℕ)) → List (List ℕ)
+words_of words = map (λ word. word.now) words
+
+-- an operator over the arguments of a run, behind which this symbol stands
+abbrev pub closed : ℕ → List (List ℕ) → OpSpec → Kinds → Kinds → Reading Operation
+closed ending names op tokens rest =
+    expect_symbol ending rest >>= λ end. Ok ((op, arguments_in names (bag_inputs_of op) (run_of tokens)), end.1)

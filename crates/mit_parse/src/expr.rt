@@ -1,0 +1,294 @@
+//! Expressions.
+ghost use Rattle.std.specs.Prelude.{◌≡◌, ◌≤◌, ◌-◌, ◌∷◌};
+ghost use Rattle.mit_lex.specs.declared.token.TokenKind.TheVariants.{Keyword};
+ghost use Rattle.mit_script.specs.Grammar.{number_in};
+ghost use Rattle.mit_script.specs.Reading as spec;
+ghost use Rattle.mit_script.specs.Grammar.{kinds};
+ghost use Rattle.mit_parse.specs.Gives.{Gives};
+
+use crate::names::Numbered;
+use crate::operators::{binary, call_of_word, negated, ranked_operator};
+use crate::stop::Stop;
+use crate::tokens::{behind, expect_symbol, sees_word};
+use mit_expr::{Call, Expr};
+use mit_lex::{Token, TokenKind, keyword, symbol};
+use mit_rows::Value;
+use sqlite_items::Boxed;
+use std::alloc::Global;
+
+/// The rank of `not`.
+const NEGATION: u8 = 2;
+
+/// The rank of comparisons.
+const COMPARISON: u8 = 3;
+
+/// The rank of what stands alone.
+const ALONE: u8 = 7;
+
+/// The number behind a `-`.
+#[tactic(auto, unfolding(mit_script::specs::Reading::negative_at))]
+fn negative_at(tokens: &[Token]) -> Result<(Expr, &[Token]), Stop<'_>>
+    ensures { Gives (λ x. (x.0, kinds x.1.now)) result (spec.negative_at (kinds tokens.now)) }
+{
+    let [
+        Token {
+            kind: TokenKind::Number(size),
+            ..
+        },
+        rest @ ..,
+    ] = tokens
+    else {
+        return Err(Stop::Refused(tokens));
+    };
+    match negated(*size) {
+        Some(number) => Ok((Expr::Lit(Value::Int(number)), rest)),
+        None => Err(Stop::Refused(tokens)),
+    }
+}
+
+/// An expression behind a `(`, up to and with its `)`.
+#[cycle(expression)]
+#[tactic(auto, unfolding(mit_script::specs::Reading::enclosed_at))]
+fn enclosed_at<'a>(
+    alloc: Global,
+    captured: &Numbered<'_>,
+    depth: usize,
+    tokens: &'a [Token],
+) -> Result<(Expr, &'a [Token]), Stop<'a>>
+    ensures { Gives (λ x. (x.0, kinds x.1.now)) result
+        (spec.enclosed_at (spec.expression (number_in captured.now) depth 7) (kinds tokens.now)) }
+{
+    let (inner, rest) = expression(alloc, captured, depth, ALONE, tokens)?;
+    let rest = expect_symbol(symbol::RIGHT_PAREN, rest)?;
+    Ok((inner, rest))
+}
+
+/// The argument of a function.
+#[cycle(expression)]
+#[tactic(auto, unfolding(mit_script::specs::Reading::called_at))]
+fn called_at<'a>(
+    alloc: Global,
+    captured: &Numbered<'_>,
+    depth: usize,
+    call: Call,
+    tokens: &'a [Token],
+) -> Result<(Expr, &'a [Token]), Stop<'a>>
+    ensures { Gives (λ x. (x.0, kinds x.1.now)) result
+        (spec.called_at (spec.expression (number_in captured.now) depth 7) call (kinds tokens.now)) }
+{
+    let rest = expect_symbol(symbol::LEFT_PAREN, tokens)?;
+    let (arg, rest) = enclosed_at(alloc, captured, depth, rest)?;
+    let arg = Boxed::new(alloc, arg)?;
+    Ok((Expr::Call { call, arg }, rest))
+}
+
+/// What stands alone and begins with a keyword.
+#[cycle(expression)]
+fn by_word<'a>(
+    alloc: Global,
+    captured: &Numbered<'_>,
+    depth: usize,
+    place: u8,
+    tokens: &'a [Token],
+    rest: &'a [Token],
+) -> Result<(Expr, &'a [Token]), Stop<'a>>
+    requires { kinds tokens.now ≡ Keyword place ∷ kinds rest.now }
+    ensures { Gives (λ x. (x.0, kinds x.1.now)) result
+        (spec.primary_by (spec.expression (number_in captured.now) depth 7) (number_in captured.now) (Keyword place) (kinds rest.now)) }
+{
+    if place == keyword::TRUE {
+        return Ok((Expr::Lit(Value::Bool(true)), rest));
+    }
+    if place == keyword::FALSE {
+        return Ok((Expr::Lit(Value::Bool(false)), rest));
+    }
+    match call_of_word(place) {
+        Some(call) => called_at(alloc, captured, depth, call, rest),
+        None => Err(Stop::Refused(tokens)),
+    }
+}
+
+/// What stands alone.
+#[cycle(expression)]
+#[tactic(auto, unfolding(mit_script::specs::Reading::primary))]
+fn primary<'a>(
+    alloc: Global,
+    captured: &Numbered<'_>,
+    depth: usize,
+    tokens: &'a [Token],
+) -> Result<(Expr, &'a [Token]), Stop<'a>>
+    ensures { Gives (λ x. (x.0, kinds x.1.now)) result
+        (spec.primary (spec.expression (number_in captured.now) depth 7) (number_in captured.now) (kinds tokens.now)) }
+{
+    let [token, rest @ ..] = tokens else {
+        return Err(Stop::Refused(tokens));
+    };
+    match &token.kind {
+        TokenKind::Number(size) => match i64::try_from(*size) {
+            Ok(number) => Ok((Expr::Lit(Value::Int(number)), rest)),
+            Err(_) => Err(Stop::Refused(tokens)),
+        },
+        TokenKind::Text(text) => Ok((Expr::Lit(Value::Text(text.copy(alloc)?)), rest)),
+        TokenKind::Column(column) => Ok((Expr::Column(*column), rest)),
+        TokenKind::Name(name) => Ok((Expr::Capture(captured.capture(name.as_str())?), rest)),
+        TokenKind::Symbol(symbol::MINUS) => negative_at(rest),
+        TokenKind::Symbol(symbol::LEFT_PAREN) => enclosed_at(alloc, captured, depth, rest),
+        TokenKind::Symbol(_) => Err(Stop::Refused(tokens)),
+        TokenKind::Keyword(place) => by_word(alloc, captured, depth, *place, tokens, rest),
+    }
+}
+
+/// The operators of one rank, and what stands behind each.
+#[cycle(expression)]
+fn chain_from<'a>(
+    alloc: Global,
+    captured: &Numbered<'_>,
+    depth: usize,
+    below: u8,
+    left: Expr,
+    tokens: &'a [Token],
+) -> Result<(Expr, &'a [Token]), Stop<'a>>
+    requires { below ≤ 6 }
+    ensures { Gives (λ x. (x.0, kinds x.1.now)) result
+        (spec.chain_from (spec.ranked (spec.expression (number_in captured.now) depth) (number_in captured.now) depth below)
+        (6 - below) depth left (kinds tokens.now)) }
+{
+    let mut left = left;
+    let mut rest = tokens;
+    for _ in 0..depth {
+        let Some(op) = ranked_operator(6 - below, rest) else {
+            return Ok((left, rest));
+        };
+        let (right, after) = ranked(alloc, captured, depth, below, behind(rest))?;
+        left = binary(alloc, op, left, right)?;
+        rest = after;
+    }
+    Err(Stop::Refused(rest))
+}
+
+/// A chain of operators of one rank.
+#[cycle(expression)]
+#[tactic(auto, unfolding(mit_script::specs::Reading::chain))]
+fn chain<'a>(
+    alloc: Global,
+    captured: &Numbered<'_>,
+    depth: usize,
+    below: u8,
+    tokens: &'a [Token],
+) -> Result<(Expr, &'a [Token]), Stop<'a>>
+    requires { below ≤ 6 }
+    ensures { Gives (λ x. (x.0, kinds x.1.now)) result
+        (spec.chain (spec.ranked (spec.expression (number_in captured.now) depth) (number_in captured.now) depth below)
+        (6 - below) depth (kinds tokens.now)) }
+{
+    let (left, rest) = ranked(alloc, captured, depth, below, tokens)?;
+    chain_from(alloc, captured, depth, below, left, rest)
+}
+
+/// An operand, or a comparison of two.
+#[cycle(expression)]
+#[tactic(auto, unfolding(mit_script::specs::Reading::comparison))]
+fn comparison<'a>(
+    alloc: Global,
+    captured: &Numbered<'_>,
+    depth: usize,
+    below: u8,
+    tokens: &'a [Token],
+) -> Result<(Expr, &'a [Token]), Stop<'a>>
+    requires { below ≤ 6 }
+    ensures { Gives (λ x. (x.0, kinds x.1.now)) result
+        (spec.comparison (spec.ranked (spec.expression (number_in captured.now) depth) (number_in captured.now) depth below)
+        (kinds tokens.now)) }
+{
+    let (left, rest) = ranked(alloc, captured, depth, below, tokens)?;
+    let Some(op) = ranked_operator(COMPARISON, rest) else {
+        return Ok((left, rest));
+    };
+    let (right, rest) = ranked(alloc, captured, depth, below, behind(rest))?;
+    if ranked_operator(COMPARISON, rest).is_some() {
+        return Err(Stop::Refused(rest));
+    }
+    Ok((binary(alloc, op, left, right)?, rest))
+}
+
+/// An operand, or a `not` and what it negates.
+#[cycle(expression)]
+#[tactic(auto, unfolding(mit_script::specs::Reading::negation))]
+fn negation<'a>(
+    alloc: Global,
+    captured: &Numbered<'_>,
+    depth: usize,
+    below: u8,
+    tokens: &'a [Token],
+) -> Result<(Expr, &'a [Token]), Stop<'a>>
+    requires { below ≤ 6 }
+    ensures { Gives (λ x. (x.0, kinds x.1.now)) result
+        (spec.negation (spec.expression (number_in captured.now) depth 5)
+        (spec.ranked (spec.expression (number_in captured.now) depth) (number_in captured.now) depth below) (kinds tokens.now)) }
+{
+    if !sees_word(keyword::NOT, tokens) {
+        return ranked(alloc, captured, depth, below, tokens);
+    }
+    let (arg, rest) = expression(alloc, captured, depth, ALONE - NEGATION, behind(tokens))?;
+    Ok((Expr::Not(Boxed::new(alloc, arg)?), rest))
+}
+
+/// An expression whose rank is 7 less this number.
+#[cycle(expression)]
+#[tactic(auto, unfolding(mit_script::specs::Reading::ranked))]
+fn ranked<'a>(
+    alloc: Global,
+    captured: &Numbered<'_>,
+    depth: usize,
+    below: u8,
+    tokens: &'a [Token],
+) -> Result<(Expr, &'a [Token]), Stop<'a>>
+    requires { below ≤ 7 }
+    ensures { Gives (λ x. (x.0, kinds x.1.now)) result
+        (spec.ranked (spec.expression (number_in captured.now) depth) (number_in captured.now) depth below (kinds tokens.now)) }
+{
+    if below == 0 {
+        return primary(alloc, captured, depth, tokens);
+    }
+    let rank = ALONE - below;
+    if rank == NEGATION {
+        return negation(alloc, captured, depth, below - 1, tokens);
+    }
+    if rank == COMPARISON {
+        return comparison(alloc, captured, depth, below - 1, tokens);
+    }
+    chain(alloc, captured, depth, below - 1, tokens)
+}
+
+/// An expression whose rank is 7 less `below`. What is nested in it is nested at most `depth` deep.
+#[cycle(expression)]
+#[tactic(auto, unfolding(mit_script::specs::Reading::expression))]
+pub(crate) fn expression<'a>(
+    alloc: Global,
+    captured: &Numbered<'_>,
+    depth: usize,
+    below: u8,
+    tokens: &'a [Token],
+) -> Result<(Expr, &'a [Token]), Stop<'a>>
+    requires { below ≤ 7 }
+    ensures { Gives (λ x. (x.0, kinds x.1.now)) result
+        (spec.expression (number_in captured.now) depth below (kinds tokens.now)) }
+{
+    if depth == 0 {
+        return Err(Stop::Refused(tokens));
+    }
+    ranked(alloc, captured, depth - 1, below, tokens)
+}
+
+/// An expression where any may stand.
+pub(crate) fn any_expression<'a>(
+    alloc: Global,
+    captured: &Numbered<'_>,
+    most: usize,
+    tokens: &'a [Token],
+) -> Result<(Expr, &'a [Token]), Stop<'a>>
+    ensures { Gives (λ x. (x.0, kinds x.1.now)) result
+        (spec.any_expression (number_in captured.now) most (kinds tokens.now)) }
+{
+    expression(alloc, captured, most, ALONE, tokens)
+}

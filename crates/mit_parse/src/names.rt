@@ -1,0 +1,237 @@
+//! The names of variables, numbered in the order in which they appear first.
+ghost use Rattle.std.specs.Prelude.{◌≡◌, ◌++◌, drop, map, take, IfOk, length};
+ghost use Rattle.mit_lex.specs.Limits.{ends_run};
+ghost use Rattle.mit_script.specs.Grammar as spec;
+ghost use Rattle.mit_script.specs.Reading as reading;
+ghost use Rattle.mit_script.specs.Grammar.{kinds};
+ghost use Rattle.mit_parse.specs.Words.{words_of};
+
+use indexmap::IndexSet;
+use mit_lex::{Token, TokenKind, keyword, symbol};
+use mit_rows::Text;
+use mit_script::{Args, Name, Names};
+use std::alloc::{AllocError, Global};
+use std::marker::Model;
+
+/// The most bytes of a name.
+const MAX_NAME: usize = 64;
+
+/// Names that differ, in an order that numbers them from 0. Contracts see their list.
+#[derive(Drop)]
+pub(crate) struct Numbered<'a> {
+    names: IndexSet<&'a str>,
+}
+
+impl<'a> Model for Numbered<'a> {
+    ghost use Rattle.std.specs.Prelude.{List, ℕ};
+    ghost use Rattle.mit_parse.specs.Words.{words_of as texts};
+
+    ghost Value = { List (List ℕ) };
+
+    ghost view = { λ n. texts n.names.keys };
+}
+
+impl Numbered<'_> {
+    /// The number of a name, or 0 where it is not among them.
+    pub(crate) fn number(&self, name: &str) -> usize
+        ensures { result ≡ spec.number_in self.now name.now }
+    {
+        self.names.get_index_of(&name).unwrap_or(0)
+    }
+
+    /// The number of a variable of this name. No text of a script's length has more names than that counts.
+    pub(crate) fn variable(&self, name: &str) -> Result<u32, AllocError>
+        ensures { IfOk result (λ number. number ≡ spec.number_in self.now name.now) }
+    {
+        match u32::try_from(self.number(name)) {
+            Ok(number) => Ok(number),
+            Err(_) => Err(AllocError),
+        }
+    }
+
+    /// The number of a captured name. No run of tokens has more names than that counts.
+    pub(crate) fn capture(&self, name: &str) -> Result<u16, AllocError>
+        ensures { IfOk result (λ number. number ≡ spec.number_in self.now name.now) }
+    {
+        match u16::try_from(self.number(name)) {
+            Ok(number) => Ok(number),
+            Err(_) => Err(AllocError),
+        }
+    }
+
+    /// The names as those of a script's variables.
+    pub(crate) fn kept(&self, alloc: Global) -> Result<Names, AllocError>
+        ensures { IfOk result (λ names. names ≡ self.now) }
+    {
+        Ok(Names::from_vec(kept_all(alloc, self.names.as_slice())?))
+    }
+}
+
+/// A name of its own. The lexer takes no name that is empty or longer.
+fn kept_one(alloc: Global, word: &str) -> Result<Name, AllocError>
+    ensures { IfOk result (λ name. name ≡ word.now) }
+{
+    if word.is_empty() || word.len() > MAX_NAME {
+        return Err(AllocError);
+    }
+    match Text::from_str(alloc, word) {
+        Ok(text) => Ok(Name::from_text(text)),
+        Err(_) => Err(AllocError),
+    }
+}
+
+/// Names of their own.
+fn kept_all(alloc: Global, words: &[&str]) -> Result<Vec<Name>, AllocError>
+    ensures { IfOk result (λ names. names.items ≡ words_of words.now) }
+{
+    let mut names = Vec::new(alloc);
+    for word in words {
+        names.push(kept_one(alloc, word)?)?;
+    }
+    Ok(names)
+}
+
+/// The names among tokens, in their order.
+fn names_in(alloc: Global, tokens: &[Token]) -> Result<Vec<&str>, AllocError>
+    ensures { IfOk result (λ words. words_of words.items ≡ spec.names_in (kinds tokens.now)) }
+{
+    let mut words = Vec::new(alloc);
+    for token in tokens {
+        if let TokenKind::Name(name) = &token.kind {
+            words.push(name.as_str())?;
+        }
+    }
+    Ok(words)
+}
+
+/// Each of these once, in the order in which they appear first.
+fn each_once<'a>(alloc: Global, words: &[&'a str]) -> Result<Numbered<'a>, AllocError>
+    ensures { IfOk result (λ names. names ≡ spec.each_once (words_of words.now)) }
+{
+    let mut names = IndexSet::new(alloc);
+    for word in words {
+        names.insert(*word)?;
+    }
+    Ok(Numbered { names })
+}
+
+/// The names of a script's variables.
+pub(crate) fn variables(alloc: Global, tokens: &[Token]) -> Result<Numbered<'_>, AllocError>
+    ensures { IfOk result (λ names. names ≡ spec.each_once (spec.names_in (kinds tokens.now))) }
+{
+    let words = names_in(alloc, tokens)?;
+    each_once(alloc, &words)
+}
+
+/// Whether a token ends a run.
+fn ends_run(kind: &TokenKind) -> bool
+    ensures { result ≡ ends_run kind.now }
+{
+    matches!(
+        kind,
+        TokenKind::Symbol(symbol::SEMICOLON | symbol::LEFT_BRACE | symbol::RIGHT_BRACE)
+    )
+}
+
+/// The tokens of the run at the front.
+fn run(tokens: &[Token]) -> &[Token]
+    ensures { kinds result.now ≡ reading.run_of (kinds tokens.now) }
+{
+    let mut size = 0;
+    for token in tokens {
+        if ends_run(&token.kind) {
+            break;
+        }
+        size += 1;
+    }
+    &tokens[..size]
+}
+
+/// How many bags an operator takes that begins with this keyword.
+fn bags_of_word(place: u8) -> usize
+    ensures { result ≡ reading.bags_of_word place }
+{
+    match place {
+        keyword::JOIN | keyword::UNION => 2,
+        keyword::MAP
+        | keyword::FILTER
+        | keyword::FLAT
+        | keyword::REDUCE
+        | keyword::DISTINCT
+        | keyword::ONLY
+        | keyword::COUNT
+        | keyword::SUM
+        | keyword::WRITE => 1,
+        _ => 0,
+    }
+}
+
+/// How many bags the operator at the front takes.
+#[tactic(auto, unfolding(mit_script::specs::Reading::bags_ahead))]
+fn bags_ahead(tokens: &[Token]) -> usize
+    ensures { result ≡ reading.bags_ahead (kinds tokens.now) }
+{
+    match tokens {
+        [
+            Token {
+                kind: TokenKind::Keyword(place),
+                ..
+            },
+            ..
+        ] => bags_of_word(*place),
+        _ => 0,
+    }
+}
+
+/// The words behind the first so many.
+fn past<'w, 'a>(count: usize, words: &'w [&'a str]) -> &'w [&'a str]
+    ensures { result.now ≡ drop count words.now }
+{
+    &words[count.min(words.len())..]
+}
+
+/// The first so many words.
+fn first<'w, 'a>(count: usize, words: &'w [&'a str]) -> &'w [&'a str]
+    ensures { result.now ≡ take count words.now }
+{
+    &words[..count.min(words.len())]
+}
+
+/// The names that the operator at the front captures.
+pub(crate) fn captured_ahead(alloc: Global, tokens: &[Token]) -> Result<Numbered<'_>, AllocError>
+    ensures { IfOk result (λ names. names ≡ spec.captured_in (reading.bags_ahead (kinds tokens.now)) (reading.run_of (kinds tokens.now))) }
+{
+    let words = names_in(alloc, run(tokens))?;
+    each_once(alloc, past(bags_ahead(tokens), &words))
+}
+
+/// Adds the numbers of these names.
+fn add_numbers(
+    numbers: &mut Vec<u32>,
+    names: &Numbered<'_>,
+    words: &[&str],
+) -> Result<(), AllocError>
+    ensures { IfOk result (λ _. numbers.new.items ≡ numbers.old.items ++ map (spec.number_in names.now) (words_of words.now)) }
+{
+    for word in words {
+        numbers.push(names.variable(word)?)?;
+    }
+    Ok(())
+}
+
+/// The arguments of the operator at the front, which takes so many bags.
+pub(crate) fn arguments(
+    alloc: Global,
+    names: &Numbered<'_>,
+    bags: usize,
+    tokens: &[Token],
+) -> Result<Args, AllocError>
+    ensures { IfOk result (λ args. args ≡ spec.arguments_in names.now bags (reading.run_of (kinds tokens.now))) }
+{
+    let words = names_in(alloc, run(tokens))?;
+    let captured = each_once(alloc, past(bags, &words))?;
+    let mut numbers = Vec::new(alloc);
+    add_numbers(&mut numbers, names, first(bags, &words))?;
+    add_numbers(&mut numbers, names, captured.names.as_slice())?;
+    Ok(Args::from_vec(numbers))
+}
