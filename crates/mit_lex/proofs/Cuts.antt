@@ -1,33 +1,30 @@
 -- Which written words are cut as which tokens, and how a text of such words is cut.
-use Rattle.std.proofs.Common.{◌≡◌, ◌<◌, ◌≤◌, ◌+◌, ◌-◌, ◌^◌, ℕ, suc, List, [], ◌∷◌, ◌++◌, map, length, take, decimal, ◌⊎◌, inl, inr, Bool, true, false, not, ltb, leb, eqb, ◌&&◌, Some, None, refl, sym, ap, ◌∙◌, arith, append_assoc, add-zero, length-append}
+use Rattle.std.proofs.Common.{◌≡◌, ◌<◌, ◌≤◌, ◌+◌, ◌-◌, ◌^◌, ℕ, suc, List, [], ◌∷◌, ◌++◌, map, length, decimal, inl, inr, Bool, true, false, not, ltb, leb, Some, None, refl, sym, ap, ◌∙◌, arith, append_assoc, add-zero, length-append}
 use Rattle.std.specs.List.{list_all, take_while}
 use Rattle.std.specs.Char.{is_ascii_digit}
 use Rattle.std.specs.Str.{IsAscii, IsUtf8, all_ascii_digits}
 use Rattle.std.specs.Str.Parse.{digits_value}
 use Rattle.std.proofs.lemmas.Bool.{and_parts}
 use Rattle.std.proofs.lemmas.Bool.Decides.{nat_tests}
-use Rattle.std.proofs.lemmas.Fmt.{decimal_is_IsNumeral, length-decimal-le}
+use Rattle.std.proofs.lemmas.Fmt.{IsAscii-decimal, decimal_is_IsNumeral, length-decimal-le}
 use Rattle.std.proofs.lemmas.List.{append-nil, take_all}
 use Rattle.std.proofs.Math.Seq.{drop-append_seam}
 use Rattle.std.proofs.lemmas.List.Sums.{take_while-cons}
 use Rattle.std.proofs.lemmas.Str.{IsUtf8-append, IsUtf8-from_ascii, IsUtf8-nil}
 use Rattle.std.proofs.lemmas.Str.Ascii.{IsAscii-cons, IsAscii-nil}
 use Rattle.std.proofs.lemmas.Str.Parse.{numerals_by_value, tells_all_ascii_digits}
-use Rattle.mit_lex.specs.Pieces.{column_at, is_blank, is_word_byte, number_at, piece_at, quoted, symbol_at, text_piece, word_at, word_kind}
-use Rattle.mit_lex.specs.Tables.{keywords, place_of, symbols}
+use Rattle.mit_lex.specs.Pieces.{column_at, is_blank, is_word_byte, number_at, piece_at, quoted, text_piece, word_at, word_kind}
+use Rattle.mit_lex.specs.Tables.{keywords, place_of}
 use Rattle.mit_lex.specs.Tokens.{Scan, scanned, with_piece}
 use Rattle.mit_lex.specs.Valid.{IsName, is_word}
+use Rattle.mit_lex.specs.Written.{IsGap}
 use Rattle.mit_lex.specs.declared.piece.Piece.TheVariants.{Skipped, Found}
 use Rattle.mit_lex.specs.declared.token.Token.{Token}
 use Rattle.mit_lex.specs.declared.token.TokenKind.{TokenKind}
-use Rattle.mit_lex.specs.declared.token.TokenKind.TheVariants.{Name, Number, Column, Text, Symbol}
+use Rattle.mit_lex.specs.declared.token.TokenKind.TheVariants.{Name, Number, Column, Text}
 use Rattle.mit_lex.proofs.PieceFacts.{blank_is, column_is, number_is, text_is, word_is}
 use Rattle.mit_lex.proofs.Runs.{all_ascii}
 use Rattle.mit_lex.proofs.ScanFacts.{covered_is, front_is}
-
--- a blank or a line feed
-abbrev pub IsGap : ℕ → Type 0
-IsGap byte = (byte ≡ 32) ⊎ (byte ≡ 10)
 
 -- these bytes, before a gap, are cut as this token
 pub record ReadsAs (bytes : List ℕ) (kind : TokenKind) : Type 0 where
@@ -82,14 +79,6 @@ digits_all [] all = refl
 digits_all (d ∷ ds) all =
     let parts = and_parts (is_ascii_digit d) (all_ascii_digits ds) all in rw (parts.0) (digits_all ds parts.1)
 
-digit_word : (byte : ℕ) → is_ascii_digit byte ≡ true → is_word_byte byte ≡ true
-digit_word byte digit = grind (arith, nat_tests)
-
-digits_ascii : (ds : List ℕ) → list_all is_ascii_digit ds ≡ true → list_all is_word_byte ds ≡ true
-digits_ascii [] all = refl
-digits_ascii (d ∷ ds) all =
-    let parts = and_parts (is_ascii_digit d) (list_all is_ascii_digit ds) all in rw (digit_word d parts.0) (digits_ascii ds parts.1)
-
 -- the digits of a number
 record Digits (value : ℕ) (ds : List ℕ) : Type 0 where
   some : 0 < length ds
@@ -101,7 +90,7 @@ digits_of : (value : ℕ) → value < 2 ^ 64 → Digits value (decimal value)
 digits_of value most =
     let numeral = decimal_is_IsNumeral value most in
     let all = digits_all (decimal value) ((numerals_by_value (λ ds. all_ascii_digits ds ≡ true) tells_all_ascii_digits).from (decimal value) numeral.0.1) in
-    record { some = numeral.0.0; all = all; worth = numeral.1; ascii = all_ascii (decimal value) (digits_ascii (decimal value) all) }
+    record { some = numeral.0.0; all = all; worth = numeral.1; ascii = IsAscii-decimal value most }
 
 number_reads : (value : ℕ) (ds : List ℕ) → value ≤ 2 ^ 63 → Digits value ds → ReadsAs ds (Number value)
 unfolding number_at
@@ -123,9 +112,6 @@ reads_number value most = number_reads value (decimal value) most (digits_of val
 
 -- ---- columns
 
-take_short : (n : ℕ) (xs : List ℕ) → length xs ≤ n → take n xs ≡ xs
-take_short n xs short = take_all n xs short
-
 column_reads : (value : ℕ) (ds : List ℕ) → value ≤ 15 → length ds ≤ 2 → Digits value ds → ReadsAs (36 ∷ ds) (Column value)
 unfolding column_at
 column_reads value ds most short digits =
@@ -138,7 +124,7 @@ column_reads value ds most short digits =
       cut = λ gap rest is_gap.
           let run = run_whole is_ascii_digit ds rest gap digits.all (gap_digit gap is_gap) in
           let at : Found (Column value) (length (36 ∷ ds)) ≡ column_at (ds ++ gap ∷ rest) =
-          rw (run, take_short 2 ds short, digits.worth, some, small, size) refl in
+          rw (run, take_all 2 ds short, digits.worth, some, small, size) refl in
           sym (column_is _ ((36 ∷ ds) ++ gap ∷ rest) (ds ++ gap ∷ rest) 36 refl refl at);
     }
 
@@ -165,44 +151,6 @@ reads_quoted written bytes utf8 most back =
           rw (whole, back (gap ∷ rest), small, size) refl in
           sym (text_is _ ((34 ∷ written ++ 34 ∷ []) ++ gap ∷ rest) ((written ++ 34 ∷ []) ++ gap ∷ rest) 34 refl refl at);
     }
-
--- ---- symbols
-
--- a byte at which neither a word nor a number, a column, a text or a comment begins
-abbrev pub is_mark : ℕ → Bool
-is_mark byte = not (is_blank byte) && not (eqb byte 35) && not (eqb byte 36) && not (eqb byte 34) && not (is_word_byte byte)
-
-mark_alone : (byte : ℕ) → is_mark byte ≡ true → (is_blank byte ≡ false) × (eqb byte 35 ≡ false) × (eqb byte 36 ≡ false) × (eqb byte 34 ≡ false)
-    × (is_ascii_digit byte ≡ false) × (is_word_byte byte ≡ false)
-mark_alone byte mark = (grind (arith, nat_tests), grind (arith, nat_tests), grind (arith, nat_tests), grind (arith, nat_tests), grind (arith, nat_tests), grind (arith, nat_tests))
-
-mark_is : (byte : ℕ) (rest : List ℕ) → is_mark byte ≡ true → piece_at (byte ∷ rest) ≡ symbol_at (byte ∷ rest)
-unfolding piece_at
-mark_is byte rest mark =
-    let alone = mark_alone byte mark in
-    rw (alone.0, alone.1, alone.2, alone.3, alone.5, alone.4) refl
-
-no_pair : (byte gap : ℕ) → IsGap gap → place_of (byte ∷ 32 ∷ []) symbols ≡ None → place_of (byte ∷ 10 ∷ []) symbols ≡ None → place_of (byte ∷ gap ∷ []) symbols ≡ None
-no_pair byte gap (inl e) blank line = rw e blank
-no_pair byte gap (inr e) blank line = rw e line
-
-pub reads_one : (byte place : ℕ) → byte < 128 → is_mark byte ≡ true → place_of (byte ∷ []) symbols ≡ Some place
-    → place_of (byte ∷ 32 ∷ []) symbols ≡ None → place_of (byte ∷ 10 ∷ []) symbols ≡ None → ReadsAs (byte ∷ []) (Symbol place)
-unfolding symbol_at
-reads_one byte place ascii mark is blank line = record {
-  some = omega arith;
-  utf8 = IsUtf8-from_ascii (byte ∷ []) (IsAscii-cons byte [] ascii IsAscii-nil);
-  cut = λ gap rest is_gap. mark_is byte (gap ∷ rest) mark ∙ rw (no_pair byte gap is_gap blank line, is) refl;
-}
-
-pub reads_two : (byte next place : ℕ) → byte < 128 → next < 128 → is_mark byte ≡ true → place_of (byte ∷ next ∷ []) symbols ≡ Some place
-    → ReadsAs (byte ∷ next ∷ []) (Symbol place)
-unfolding symbol_at
-reads_two byte next place ascii also mark is = record {
-  some = omega arith;
-  utf8 = IsUtf8-from_ascii (byte ∷ next ∷ []) (IsAscii-cons byte (next ∷ []) ascii (IsAscii-cons next [] also IsAscii-nil));
-  cut = λ gap rest is_gap. mark_is byte (next ∷ gap ∷ rest) mark ∙ rw is refl;
-}
 
 -- ---- texts of such words
 

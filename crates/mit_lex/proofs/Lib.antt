@@ -6,3 +6,5 @@ pub mod QuoteFacts
 pub mod Runs
 pub mod ScanFacts
 pub mod ValidTokens
+pub mod WrittenTexts
+pub mod WrittenTokens

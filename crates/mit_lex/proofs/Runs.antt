@@ -22,11 +22,15 @@ digits_pass n text e = rw e (run_passes is_ascii_digit text)
 word_byte_ascii : (byte : ℕ) → is_word_byte byte ≡ true → byte < 128
 word_byte_ascii byte word = grind (arith, nat_tests)
 
+-- bytes that pass a test which ASCII alone passes
+pub passing_ascii : (p : ℕ → Bool) → ((byte : ℕ) → p byte ≡ true → byte < 128) → (bytes : List ℕ) → list_all p bytes ≡ true → IsAscii bytes
+passing_ascii p ascii [] all = IsAscii-nil
+passing_ascii p ascii (byte ∷ bytes) all =
+    let parts = and_parts (p byte) (list_all p bytes) all in
+    IsAscii-cons byte bytes (ascii byte parts.0) (passing_ascii p ascii bytes parts.1)
+
 pub all_ascii : (bytes : List ℕ) → list_all is_word_byte bytes ≡ true → IsAscii bytes
-all_ascii [] all = IsAscii-nil
-all_ascii (byte ∷ bytes) all =
-    let parts = and_parts (is_word_byte byte) (list_all is_word_byte bytes) all in
-    IsAscii-cons byte bytes (word_byte_ascii byte parts.0) (all_ascii bytes parts.1)
+all_ascii = passing_ascii is_word_byte word_byte_ascii
 
 pub word_ascii : (n : ℕ) (text : List ℕ) → n ≡ prefix_len is_word_byte text → IsAscii (take n text)
 word_ascii n text e = rw e (all_ascii (take (prefix_len is_word_byte text) text) (run_passes is_word_byte text))

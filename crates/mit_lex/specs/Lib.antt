@@ -4,3 +4,4 @@ pub mod Quotes
 pub mod Limits
 pub mod Tokens
 pub mod Valid
+pub mod Written

@@ -2,6 +2,7 @@
 #![tactic(auto)]
 
 pub mod keyword;
+pub mod laws;
 mod lexer;
 mod limits;
 mod piece;
