@@ -13,6 +13,7 @@ use Rattle.mit_expr.specs.declared.expr.Expr.{Expr}
 use Rattle.mit_expr.specs.declared.expr.Expr.TheFolds.{fold-Expr}
 use Rattle.mit_expr.specs.declared.expr.Expr.TheOpen.{Expr-F}
 use Rattle.mit_expr.specs.declared.expr.Expr.TheOpen as expr
+use Rattle.mit_lex.specs.Written.{between_quotes}
 use Rattle.mit_ops.specs.Kinds.{bag_inputs_of}
 use Rattle.mit_ops.specs.declared.kinds.Agg.{Agg}
 use Rattle.mit_ops.specs.declared.kinds.Agg.TheVariants as agg
@@ -33,15 +34,6 @@ spaced = flat_map (λ token. token ++ codes " ")
 abbrev pub named : Tokens → List ℕ → ℕ → List ℕ
 named names variables place = unwrap_or (option_and_then (slice_get names) (slice_get variables place)) []
 
--- a byte between quotes
-abbrev pub escaped : ℕ → List ℕ
-escaped byte =
-    if byte == 34 then codes "\\\"" else if byte == 92 then codes "\\\\"
-    else if byte == 10 then codes "\\n" else if byte == 9 then codes "\\t" else byte ∷ []
-
-abbrev pub quoted : List ℕ → List ℕ
-quoted text = codes "\"" ++ flat_map escaped text ++ codes "\""
-
 -- below zero, a `-` and its size
 abbrev pub int_tokens : ℤ → Tokens
 int_tokens (pos size) = decimal size ∷ []
@@ -53,7 +45,7 @@ truth_word false = codes "false"
 
 abbrev pub literal_tokens : Value → Tokens
 literal_tokens (value.Int number) = int_tokens number
-literal_tokens (value.Text text) = quoted text ∷ []
+literal_tokens (value.Text text) = between_quotes text ∷ []
 literal_tokens (value.Bool truth) = truth_word truth ∷ []
 
 abbrev pub symbol_of : BinOp → List ℕ
@@ -166,7 +158,7 @@ agg_tokens (agg.Max column) = codes "max" ∷ column_token column ∷ []
 
 abbrev pub flat_tokens : Tokens → List ℕ → Flat → Tokens
 flat_tokens names captured (flat.Words expr separator) =
-    codes "words" ∷ expr_tokens names captured expr ++ codes "," ∷ quoted separator ∷ []
+    codes "words" ∷ expr_tokens names captured expr ++ codes "," ∷ between_quotes separator ∷ []
 flat_tokens names captured (flat.Range from to) =
     codes "range" ∷ expr_tokens names captured from ++ codes "," ∷ expr_tokens names captured to
 

@@ -9,6 +9,7 @@ ghost use Rattle.mit_script.specs.Words.{op_tokens};
 use crate::lists::{Args, Name};
 use crate::tree::{Script, Stmt};
 use crate::words::{add_op, add_word, name_at};
+use mit_lex::laws::writing_law;
 use mit_ops::OpSpec;
 use std::alloc::{AllocError, Global};
 
@@ -197,6 +198,7 @@ pub fn print(alloc: Global, script: &Script) -> Result<Vec<u8>, AllocError>
     ensures again { IfOk result (λ text.
         CanBeSpelled script.now → KeepsLimits text.items → IsSpelled text.items script.now) }
 {
+    writing_law();
     let mut text = Vec::new(alloc);
     add_all(
         alloc,

@@ -1,6 +1,7 @@
 //! The tokens of a statement's operator: each is added to a text with a blank behind it.
 ghost use Rattle.std.specs.Prelude.{◌≡◌, ◌<◌, ◌∷◌, ◌++◌, [], decimal, drop, flat_map, slice_get, unwrap_or, OnOk};
 ghost use Rattle.std.specs.List.{join_by};
+ghost use Rattle.mit_lex.specs.Written.{between_quotes, escaped_as};
 ghost use Rattle.mit_script.specs.Words as spec;
 ghost use Rattle.mit_script.specs.Words.{spaced};
 
@@ -67,7 +68,7 @@ fn add_int(text: &mut Vec<u8>, number: i64) -> Result<(), AllocError>
 
 /// A byte between quotes.
 fn add_escaped(text: &mut Vec<u8>, byte: u8) -> Result<(), AllocError>
-    ensures { OnOk result (text.new.items ≡ text.old.items ++ spec.escaped byte) }
+    ensures { OnOk result (text.new.items ≡ text.old.items ++ escaped_as byte) }
 {
     match byte {
         b'"' => text.extend_from_slice(b"\\\"")?,
@@ -81,7 +82,7 @@ fn add_escaped(text: &mut Vec<u8>, byte: u8) -> Result<(), AllocError>
 
 /// Bytes between quotes.
 fn add_all_escaped(text: &mut Vec<u8>, words: &[u8]) -> Result<(), AllocError>
-    ensures { OnOk result (text.new.items ≡ text.old.items ++ flat_map spec.escaped words.now) }
+    ensures { OnOk result (text.new.items ≡ text.old.items ++ flat_map escaped_as words.now) }
 {
     for byte in words {
         add_escaped(text, *byte)?;
@@ -91,7 +92,7 @@ fn add_all_escaped(text: &mut Vec<u8>, words: &[u8]) -> Result<(), AllocError>
 
 /// A text in quotes.
 fn add_quoted(text: &mut Vec<u8>, words: &[u8]) -> Result<(), AllocError>
-    ensures { OnOk result (text.new.items ≡ text.old.items ++ spaced (spec.quoted words.now ∷ [])) }
+    ensures { OnOk result (text.new.items ≡ text.old.items ++ spaced (between_quotes words.now ∷ [])) }
 {
     text.push(b'"')?;
     add_all_escaped(text, words)?;
