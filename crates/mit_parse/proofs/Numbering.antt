@@ -12,7 +12,7 @@ use Rattle.mit_lex.specs.declared.token.Token.{Token}
 use Rattle.mit_script.specs.Grammar.{kinds}
 use Rattle.std.proofs.lemmas.Slice.Eq.{bytes_eq-Decides}
 use Rattle.mit_lex.specs.declared.token.TokenKind.{TokenKind}
-use Rattle.mit_script.specs.Grammar.{Kinds, each_once, name_in, names_in, number_in}
+use Rattle.mit_script.specs.Grammar.{Kinds, captured_in, each_once, name_in, names_in, number_in}
 use Rattle.mit_parse.specs.Words.{words_of}
 
 -- two tests that hold together are equal
@@ -175,13 +175,20 @@ pub first-words : (count : ℕ) (words first : List (Bor (List ℕ))) (names : L
     → words_of first ≡ take count names
 first-words count words first names is e = rw (is, ← e) (sym (take-map (λ word. word.now) count words))
 
+-- the words behind the bags of a run, each once, are the captured names
+pub captured-words : (names : List (List ℕ)) (words slice past : List (Bor (List ℕ))) (bags count : ℕ) (ahead run : Kinds) → names ≡ each_once (words_of past)
+    → past ≡ drop bags slice → slice ≡ words → words_of words ≡ names_in ahead → ahead ≡ run → bags ≡ count → names ≡ captured_in count run
+captured-words names words slice past bags count ahead run once cut same read front counted =
+    let behind = past-words bags words past (names_in ahead) (cut ∙ ap (λ (list : List (Bor (List ℕ))). drop bags list) same) read in
+    rw (← counted, ← front) (once ∙ ap each_once behind)
+
 drop-next : (tokens : List Token) (i : ℕ) (token : Token) → i < length tokens → drop i tokens ≡ get_or tokens i token ∷ drop (suc i) tokens
 drop-next [] i token lt = absurd (omega (arith, lt))
 drop-next (first ∷ tokens) zero token lt = refl
 drop-next (first ∷ tokens) (suc i) token lt = drop-next tokens i token (omega (arith, lt))
 
 -- a token that does not end a run is in it
-run-in : (token : TokenKind) (rest : Kinds) → ends_run token ≡ false → run_of (token ∷ rest) ≡ token ∷ run_of rest
+pub run-in : (token : TokenKind) (rest : Kinds) → ends_run token ≡ false → run_of (token ∷ rest) ≡ token ∷ run_of rest
 run-in token rest inside =
     let size = prefix_len (λ other. not (ends_run other)) rest in
     let one : suc size ≡ 1 + size = omega arith in

@@ -6,7 +6,7 @@ ghost use Rattle.mit_script.specs.Reading as spec;
 ghost use Rattle.mit_script.specs.Grammar.{kinds};
 ghost use Rattle.mit_parse.specs.Gives.{Gives};
 
-use crate::names::Numbered;
+use crate::names::CapturedNames;
 use crate::operators::{binary, call_of_word, negated, ranked_operator};
 use crate::stop::Stop;
 use crate::tokens::{behind, expect_symbol, sees_word};
@@ -51,7 +51,7 @@ fn negative_at(tokens: &[Token]) -> Result<(Expr, &[Token]), Stop<'_>>
 #[tactic(auto, unfolding(mit_script::specs::Reading::enclosed_at))]
 fn enclosed_at<'a>(
     alloc: Global,
-    captured: &Numbered<'_>,
+    captured: &CapturedNames<'_>,
     depth: usize,
     tokens: &'a [Token],
 ) -> Result<(Expr, &'a [Token]), Stop<'a>>
@@ -68,7 +68,7 @@ fn enclosed_at<'a>(
 #[tactic(auto, unfolding(mit_script::specs::Reading::called_at))]
 fn called_at<'a>(
     alloc: Global,
-    captured: &Numbered<'_>,
+    captured: &CapturedNames<'_>,
     depth: usize,
     call: Call,
     tokens: &'a [Token],
@@ -86,7 +86,7 @@ fn called_at<'a>(
 #[cycle(expression)]
 fn by_word<'a>(
     alloc: Global,
-    captured: &Numbered<'_>,
+    captured: &CapturedNames<'_>,
     depth: usize,
     place: u8,
     tokens: &'a [Token],
@@ -113,7 +113,7 @@ fn by_word<'a>(
 #[tactic(auto, unfolding(mit_script::specs::Reading::primary))]
 fn primary<'a>(
     alloc: Global,
-    captured: &Numbered<'_>,
+    captured: &CapturedNames<'_>,
     depth: usize,
     tokens: &'a [Token],
 ) -> Result<(Expr, &'a [Token]), Stop<'a>>
@@ -130,7 +130,7 @@ fn primary<'a>(
         },
         TokenKind::Text(text) => Ok((Expr::Lit(Value::Text(text.copy(alloc)?)), rest)),
         TokenKind::Column(column) => Ok((Expr::Column(*column), rest)),
-        TokenKind::Name(name) => Ok((Expr::Capture(captured.capture(name.as_str())?), rest)),
+        TokenKind::Name(name) => Ok((Expr::Capture(captured.capture(name.as_str())), rest)),
         TokenKind::Symbol(symbol::MINUS) => negative_at(rest),
         TokenKind::Symbol(symbol::LEFT_PAREN) => enclosed_at(alloc, captured, depth, rest),
         TokenKind::Symbol(_) => Err(Stop::Refused(tokens)),
@@ -142,7 +142,7 @@ fn primary<'a>(
 #[cycle(expression)]
 fn chain_from<'a>(
     alloc: Global,
-    captured: &Numbered<'_>,
+    captured: &CapturedNames<'_>,
     depth: usize,
     below: u8,
     left: Expr,
@@ -171,7 +171,7 @@ fn chain_from<'a>(
 #[tactic(auto, unfolding(mit_script::specs::Reading::chain))]
 fn chain<'a>(
     alloc: Global,
-    captured: &Numbered<'_>,
+    captured: &CapturedNames<'_>,
     depth: usize,
     below: u8,
     tokens: &'a [Token],
@@ -190,7 +190,7 @@ fn chain<'a>(
 #[tactic(auto, unfolding(mit_script::specs::Reading::comparison))]
 fn comparison<'a>(
     alloc: Global,
-    captured: &Numbered<'_>,
+    captured: &CapturedNames<'_>,
     depth: usize,
     below: u8,
     tokens: &'a [Token],
@@ -216,7 +216,7 @@ fn comparison<'a>(
 #[tactic(auto, unfolding(mit_script::specs::Reading::negation))]
 fn negation<'a>(
     alloc: Global,
-    captured: &Numbered<'_>,
+    captured: &CapturedNames<'_>,
     depth: usize,
     below: u8,
     tokens: &'a [Token],
@@ -238,7 +238,7 @@ fn negation<'a>(
 #[tactic(auto, unfolding(mit_script::specs::Reading::ranked))]
 fn ranked<'a>(
     alloc: Global,
-    captured: &Numbered<'_>,
+    captured: &CapturedNames<'_>,
     depth: usize,
     below: u8,
     tokens: &'a [Token],
@@ -265,7 +265,7 @@ fn ranked<'a>(
 #[tactic(auto, unfolding(mit_script::specs::Reading::expression))]
 pub(crate) fn expression<'a>(
     alloc: Global,
-    captured: &Numbered<'_>,
+    captured: &CapturedNames<'_>,
     depth: usize,
     below: u8,
     tokens: &'a [Token],
@@ -283,7 +283,7 @@ pub(crate) fn expression<'a>(
 /// An expression where any may stand.
 pub(crate) fn any_expression<'a>(
     alloc: Global,
-    captured: &Numbered<'_>,
+    captured: &CapturedNames<'_>,
     most: usize,
     tokens: &'a [Token],
 ) -> Result<(Expr, &'a [Token]), Stop<'a>>

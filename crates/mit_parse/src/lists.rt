@@ -6,7 +6,7 @@ ghost use Rattle.mit_script.specs.Grammar.{kinds};
 ghost use Rattle.mit_parse.specs.Gives.{Gives};
 
 use crate::expr::any_expression;
-use crate::names::Numbered;
+use crate::names::CapturedNames;
 use crate::stop::Stop;
 use crate::tokens::{behind, column_at, expect_symbol, sees_symbol, type_at};
 use mit_expr::Expr;
@@ -60,7 +60,7 @@ fn listed_columns(
 /// One expression or more.
 fn listed_exprs<'a>(
     alloc: Global,
-    captured: &Numbered<'_>,
+    captured: &CapturedNames<'_>,
     turns: usize,
     tokens: &'a [Token],
 ) -> Result<(Vec<Expr>, &'a [Token]), Stop<'a>>
@@ -111,7 +111,7 @@ pub(crate) fn columns_at(
 #[tactic(auto, unfolding(mit_script::specs::Reading::exprs_at))]
 pub(crate) fn exprs_at<'a>(
     alloc: Global,
-    captured: &Numbered<'_>,
+    captured: &CapturedNames<'_>,
     most: usize,
     tokens: &'a [Token],
 ) -> Result<(Exprs, &'a [Token]), Stop<'a>>

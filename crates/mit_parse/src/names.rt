@@ -1,24 +1,23 @@
 //! The names of variables, numbered in the order in which they appear first.
-ghost use Rattle.std.specs.Prelude.{◌≡◌, ◌++◌, drop, map, take, IfOk, length};
+ghost use Rattle.std.specs.Prelude.{◌≡◌, ◌≤◌, ◌++◌, drop, map, take, All, IfOk, length};
 ghost use Rattle.mit_lex.specs.Limits.{ends_run};
+ghost use Rattle.mit_lex.specs.Valid.{IsToken};
 ghost use Rattle.mit_script.specs.Grammar as spec;
 ghost use Rattle.mit_script.specs.Reading as reading;
 ghost use Rattle.mit_script.specs.Grammar.{kinds};
-ghost use Rattle.mit_parse.specs.Words.{words_of};
+ghost use Rattle.mit_parse.specs.Runs.{HasShortRuns};
+ghost use Rattle.mit_parse.specs.Words.{IsShortName, words_of};
 
 use indexmap::IndexSet;
 use mit_lex::{Token, TokenKind, keyword, symbol};
-use mit_rows::Text;
+use mit_rows::{Text, TextRefused};
 use mit_script::{Args, Name, Names};
 use std::alloc::{AllocError, Global};
 use std::marker::Model;
 
-/// The most bytes of a name.
-const MAX_NAME: usize = 64;
-
 /// Names that differ, in an order that numbers them from 0. Contracts see their list.
 #[derive(Drop)]
-pub(crate) struct Numbered<'a> {
+struct Numbered<'a> {
     names: IndexSet<&'a str>,
 }
 
@@ -33,55 +32,86 @@ impl<'a> Model for Numbered<'a> {
 
 impl Numbered<'_> {
     /// The number of a name, or 0 where it is not among them.
-    pub(crate) fn number(&self, name: &str) -> usize
+    fn number(&self, name: &str) -> usize
         ensures { result ≡ spec.number_in self.now name.now }
     {
         self.names.get_index_of(&name).unwrap_or(0)
     }
+}
 
-    /// The number of a variable of this name. No text of a script's length has more names than that counts.
-    pub(crate) fn variable(&self, name: &str) -> Result<u32, AllocError>
-        ensures { IfOk result (λ number. number ≡ spec.number_in self.now name.now) }
-    {
-        match u32::try_from(self.number(name)) {
-            Ok(number) => Ok(number),
-            Err(_) => Err(AllocError),
-        }
-    }
+/// The names of a script's variables, which contracts see as their list: at most 1,048,576 names of 1 to 64 bytes.
+#[derive(Drop)]
+pub(crate) struct VariableNames<'a> {
+    numbered: Numbered<'a>,
+}
 
-    /// The number of a captured name. No run of tokens has more names than that counts.
-    pub(crate) fn capture(&self, name: &str) -> Result<u16, AllocError>
-        ensures { IfOk result (λ number. number ≡ spec.number_in self.now name.now) }
+impl<'a> Model for VariableNames<'a> {
+    ghost use Rattle.std.specs.Prelude.{List, ℕ, ◌≤◌, All, length};
+    ghost use Rattle.mit_parse.specs.Words.{IsShortName as IsShort};
+
+    ghost Value = { List (List ℕ) };
+
+    ghost view = { λ v. v.numbered };
+
+    ghost invariant = { λ v. (length v.numbered ≤ 1048576) × All IsShort v.numbered };
+}
+
+impl VariableNames<'_> {
+    /// The number of a variable of this name.
+    pub(crate) fn variable(&self, name: &str) -> u32
+        ensures { result ≡ spec.number_in self.now name.now }
     {
-        match u16::try_from(self.number(name)) {
-            Ok(number) => Ok(number),
-            Err(_) => Err(AllocError),
-        }
+        self.numbered.number(name) as u32
     }
 
     /// The names as those of a script's variables.
     pub(crate) fn kept(&self, alloc: Global) -> Result<Names, AllocError>
         ensures { IfOk result (λ names. names ≡ self.now) }
     {
-        Ok(Names::from_vec(kept_all(alloc, self.names.as_slice())?))
+        Ok(Names::from_vec(kept_all(alloc, self.numbered.names.as_slice())?))
     }
 }
 
-/// A name of its own. The lexer takes no name that is empty or longer.
+/// The names that an operator captures, which contracts see as their list: at most 65,536.
+#[derive(Drop)]
+pub(crate) struct CapturedNames<'a> {
+    numbered: Numbered<'a>,
+}
+
+impl<'a> Model for CapturedNames<'a> {
+    ghost use Rattle.std.specs.Prelude.{List, ℕ, ◌≤◌, length};
+
+    ghost Value = { List (List ℕ) };
+
+    ghost view = { λ c. c.numbered };
+
+    ghost invariant = { λ c. length c.numbered ≤ 65536 };
+}
+
+impl CapturedNames<'_> {
+    /// The number of a captured name.
+    pub(crate) fn capture(&self, name: &str) -> u16
+        ensures { result ≡ spec.number_in self.now name.now }
+    {
+        self.numbered.number(name) as u16
+    }
+}
+
+/// A name of its own.
 fn kept_one(alloc: Global, word: &str) -> Result<Name, AllocError>
+    requires { IsShortName word.now }
     ensures { IfOk result (λ name. name ≡ word.now) }
 {
-    if word.is_empty() || word.len() > MAX_NAME {
-        return Err(AllocError);
-    }
     match Text::from_str(alloc, word) {
         Ok(text) => Ok(Name::from_text(text)),
-        Err(_) => Err(AllocError),
+        Err(TextRefused::TooLong) => unreachable!(),
+        Err(TextRefused::NoMemory) => Err(AllocError),
     }
 }
 
 /// Names of their own.
 fn kept_all(alloc: Global, words: &[&str]) -> Result<Vec<Name>, AllocError>
+    requires { All IsShortName (words_of words.now) }
     ensures { IfOk result (λ names. names.items ≡ words_of words.now) }
 {
     let mut names = Vec::new(alloc);
@@ -116,11 +146,14 @@ fn each_once<'a>(alloc: Global, words: &[&'a str]) -> Result<Numbered<'a>, Alloc
 }
 
 /// The names of a script's variables.
-pub(crate) fn variables(alloc: Global, tokens: &[Token]) -> Result<Numbered<'_>, AllocError>
+pub(crate) fn variables(alloc: Global, tokens: &[Token]) -> Result<VariableNames<'_>, AllocError>
+    requires few { length tokens.now ≤ 1048576 }
+    requires valid { All (λ token. IsToken token.kind) tokens.now }
     ensures { IfOk result (λ names. names ≡ spec.each_once (spec.names_in (kinds tokens.now))) }
 {
     let words = names_in(alloc, tokens)?;
-    each_once(alloc, &words)
+    let numbered = each_once(alloc, &words)?;
+    Ok(VariableNames { numbered })
 }
 
 /// Whether a token ends a run.
@@ -198,23 +231,28 @@ fn first<'w, 'a>(count: usize, words: &'w [&'a str]) -> &'w [&'a str]
 }
 
 /// The names that the operator at the front captures.
-pub(crate) fn captured_ahead(alloc: Global, tokens: &[Token]) -> Result<Numbered<'_>, AllocError>
+pub(crate) fn captured_ahead(
+    alloc: Global,
+    tokens: &[Token],
+) -> Result<CapturedNames<'_>, AllocError>
+    requires short { HasShortRuns (kinds tokens.now) }
     ensures { IfOk result (λ names. names ≡ spec.captured_in (reading.bags_ahead (kinds tokens.now)) (reading.run_of (kinds tokens.now))) }
 {
     let words = names_in(alloc, run(tokens))?;
-    each_once(alloc, past(bags_ahead(tokens), &words))
+    let numbered = each_once(alloc, past(bags_ahead(tokens), &words))?;
+    Ok(CapturedNames { numbered })
 }
 
 /// Adds the numbers of these names.
 fn add_numbers(
     numbers: &mut Vec<u32>,
-    names: &Numbered<'_>,
+    names: &VariableNames<'_>,
     words: &[&str],
 ) -> Result<(), AllocError>
     ensures { IfOk result (λ _. numbers.new.items ≡ numbers.old.items ++ map (spec.number_in names.now) (words_of words.now)) }
 {
     for word in words {
-        numbers.push(names.variable(word)?)?;
+        numbers.push(names.variable(word))?;
     }
     Ok(())
 }
@@ -222,7 +260,7 @@ fn add_numbers(
 /// The arguments of the operator at the front, which takes so many bags.
 pub(crate) fn arguments(
     alloc: Global,
-    names: &Numbered<'_>,
+    names: &VariableNames<'_>,
     bags: usize,
     tokens: &[Token],
 ) -> Result<Args, AllocError>

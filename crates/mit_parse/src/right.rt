@@ -7,7 +7,7 @@ ghost use Rattle.mit_parse.specs.Gives.{Gives};
 
 use crate::expr::any_expression;
 use crate::lists::{columns_at, exprs_at, types_at};
-use crate::names::Numbered;
+use crate::names::CapturedNames;
 use crate::stop::Stop;
 use crate::tokens::{behind, column_at, expect_symbol, expect_word, name_at, sees_word, text_at};
 use mit_expr::Expr;
@@ -52,7 +52,7 @@ fn agg_at(tokens: &[Token]) -> Result<(Agg, &[Token]), Stop<'_>>
 #[tactic(auto, unfolding(mit_script::specs::Reading::read_at))]
 fn read_at<'a>(
     alloc: Global,
-    captured: &Numbered<'_>,
+    captured: &CapturedNames<'_>,
     most: usize,
     tokens: &'a [Token],
 ) -> Result<(OpSpec, &'a [Token]), Stop<'a>>
@@ -67,7 +67,7 @@ fn read_at<'a>(
 #[tactic(auto, unfolding(mit_script::specs::Reading::map_at))]
 fn map_at<'a>(
     alloc: Global,
-    captured: &Numbered<'_>,
+    captured: &CapturedNames<'_>,
     most: usize,
     tokens: &'a [Token],
 ) -> Result<(OpSpec, &'a [Token]), Stop<'a>>
@@ -82,7 +82,7 @@ fn map_at<'a>(
 #[tactic(auto, unfolding(mit_script::specs::Reading::filter_at))]
 fn filter_at<'a>(
     alloc: Global,
-    captured: &Numbered<'_>,
+    captured: &CapturedNames<'_>,
     most: usize,
     tokens: &'a [Token],
 ) -> Result<(OpSpec, &'a [Token]), Stop<'a>>
@@ -98,7 +98,7 @@ fn filter_at<'a>(
 #[tactic(auto, unfolding(mit_script::specs::Reading::words_at))]
 fn words_at<'a>(
     alloc: Global,
-    captured: &Numbered<'_>,
+    captured: &CapturedNames<'_>,
     most: usize,
     tokens: &'a [Token],
 ) -> Result<(OpSpec, &'a [Token]), Stop<'a>>
@@ -116,7 +116,7 @@ fn words_at<'a>(
 #[tactic(auto, unfolding(mit_script::specs::Reading::range_at))]
 fn range_at<'a>(
     alloc: Global,
-    captured: &Numbered<'_>,
+    captured: &CapturedNames<'_>,
     most: usize,
     tokens: &'a [Token],
 ) -> Result<(OpSpec, &'a [Token]), Stop<'a>>
@@ -133,7 +133,7 @@ fn range_at<'a>(
 #[tactic(auto, unfolding(mit_script::specs::Reading::flat_by))]
 fn flat_by<'a>(
     alloc: Global,
-    captured: &Numbered<'_>,
+    captured: &CapturedNames<'_>,
     most: usize,
     tokens: &'a [Token],
 ) -> Result<(OpSpec, &'a [Token]), Stop<'a>>
@@ -152,7 +152,7 @@ fn flat_by<'a>(
 #[tactic(auto, unfolding(mit_script::specs::Reading::flat_at))]
 fn flat_at<'a>(
     alloc: Global,
-    captured: &Numbered<'_>,
+    captured: &CapturedNames<'_>,
     most: usize,
     tokens: &'a [Token],
 ) -> Result<(OpSpec, &'a [Token]), Stop<'a>>
@@ -221,7 +221,7 @@ fn sum_at(tokens: &[Token]) -> Result<(OpSpec, &[Token]), Stop<'_>>
 #[tactic(auto, unfolding(mit_script::specs::Reading::row_at))]
 fn row_at<'a>(
     alloc: Global,
-    captured: &Numbered<'_>,
+    captured: &CapturedNames<'_>,
     most: usize,
     tokens: &'a [Token],
 ) -> Result<(OpSpec, &'a [Token]), Stop<'a>>
@@ -251,7 +251,7 @@ fn is_name(expr: &Expr) -> bool
 #[tactic(auto, unfolding(mit_script::specs::Reading::scalar_at))]
 fn scalar_at<'a>(
     alloc: Global,
-    captured: &Numbered<'_>,
+    captured: &CapturedNames<'_>,
     most: usize,
     tokens: &'a [Token],
 ) -> Result<(OpSpec, &'a [Token]), Stop<'a>>
@@ -267,7 +267,7 @@ fn scalar_at<'a>(
 /// The form of a keyword, or an expression.
 fn right_by<'a>(
     alloc: Global,
-    captured: &Numbered<'_>,
+    captured: &CapturedNames<'_>,
     most: usize,
     place: u8,
     tokens: &'a [Token],
@@ -298,7 +298,7 @@ fn right_by<'a>(
 #[tactic(auto, unfolding(mit_script::specs::Reading::right_at))]
 pub(crate) fn right_at<'a>(
     alloc: Global,
-    captured: &Numbered<'_>,
+    captured: &CapturedNames<'_>,
     most: usize,
     tokens: &'a [Token],
 ) -> Result<(OpSpec, &'a [Token]), Stop<'a>>
@@ -320,7 +320,7 @@ pub(crate) fn right_at<'a>(
 #[tactic(auto, unfolding(mit_script::specs::Reading::write_at))]
 pub(crate) fn write_at<'a>(
     alloc: Global,
-    captured: &Numbered<'_>,
+    captured: &CapturedNames<'_>,
     most: usize,
     tokens: &'a [Token],
 ) -> Result<(OpSpec, &'a [Token]), Stop<'a>>
@@ -337,7 +337,7 @@ pub(crate) fn write_at<'a>(
 #[tactic(auto, unfolding(mit_script::specs::Reading::condition_at))]
 pub(crate) fn condition_at<'a>(
     alloc: Global,
-    captured: &Numbered<'_>,
+    captured: &CapturedNames<'_>,
     most: usize,
     tokens: &'a [Token],
 ) -> Result<(OpSpec, &'a [Token]), Stop<'a>>

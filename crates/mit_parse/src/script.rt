@@ -1,6 +1,7 @@
 //! From a text to its script.
-ghost use Rattle.std.specs.Prelude.{◌≡◌, ◌≤◌, Ok, IfOk, IfErr, length};
+ghost use Rattle.std.specs.Prelude.{◌≡◌, ◌≤◌, All, Ok, IfOk, IfErr, length};
 ghost use Rattle.mit_lex.specs.Tokens.{tokens_of};
+ghost use Rattle.mit_lex.specs.Valid.{IsToken};
 ghost use Rattle.mit_script.specs.Grammar.{IsSpelled};
 ghost use Rattle.mit_script.specs.Trees.{IsFormed, IsNumbered};
 ghost use Rattle.mit_parse.specs.Places.{TellsPlace, refusal_place};
@@ -29,6 +30,7 @@ fn script_of(alloc: Global, text: &[u8], tokens: &[Token]) -> Result<Script, Par
     requires read { tokens_of text.now ≡ Ok tokens.now }
     requires few { length tokens.now ≤ 1048576 }
     requires short { length text.now ≤ 1048576 }
+    requires valid { All (λ token. IsToken token.kind) tokens.now }
     ensures spelled { IfOk result (λ script. IsSpelled text.now script) }
     ensures formed { IfOk result IsFormed }
     ensures numbered { IfOk result IsNumbered }

@@ -1,11 +1,13 @@
 //! Statements and scripts.
-ghost use Rattle.std.specs.Prelude.{◌≡◌, ◌+◌, length};
+ghost use Rattle.std.specs.Prelude.{◌≡◌, ◌≤◌, ◌+◌, All, length};
+ghost use Rattle.mit_lex.specs.Valid.{IsToken};
 ghost use Rattle.mit_script.specs.Reading as spec;
 ghost use Rattle.mit_script.specs.Grammar.{kinds};
 ghost use Rattle.mit_parse.specs.Gives.{Gives};
+ghost use Rattle.mit_parse.specs.Runs.{HasShortRuns};
 ghost use Rattle.mit_parse.specs.Words.{closed as spec_closed};
 
-use crate::names::{Numbered, arguments, captured_ahead, variables};
+use crate::names::{VariableNames, arguments, captured_ahead, variables};
 use crate::right::{condition_at, right_at, write_at};
 use crate::stop::Stop;
 use crate::tokens::{behind, expect_symbol, name_at, sees_word};
@@ -24,7 +26,7 @@ struct Operation {
 /// An operator whose form was read up to `rest`, with the symbol that ends its run.
 fn closed<'a>(
     alloc: Global,
-    names: &Numbered<'_>,
+    names: &VariableNames<'_>,
     ending: u8,
     op: OpSpec,
     tokens: &[Token],
@@ -43,10 +45,11 @@ fn closed<'a>(
 #[tactic(auto, unfolding(mit_script::specs::Reading::operation, mit_script::specs::Reading::number_ahead))]
 fn right<'a>(
     alloc: Global,
-    names: &Numbered<'_>,
+    names: &VariableNames<'_>,
     most: usize,
     tokens: &'a [Token],
 ) -> Result<(Operation, &'a [Token]), Stop<'a>>
+    requires short { HasShortRuns (kinds tokens.now) }
     ensures { Gives (λ x. ((x.0.op, x.0.args), kinds x.1.now)) result
         (spec.operation spec.right_at 1 names.now most (kinds tokens.now)) }
 {
@@ -59,10 +62,11 @@ fn right<'a>(
 #[tactic(auto, unfolding(mit_script::specs::Reading::operation, mit_script::specs::Reading::number_ahead))]
 fn written<'a>(
     alloc: Global,
-    names: &Numbered<'_>,
+    names: &VariableNames<'_>,
     most: usize,
     tokens: &'a [Token],
 ) -> Result<(Operation, &'a [Token]), Stop<'a>>
+    requires short { HasShortRuns (kinds tokens.now) }
     ensures { Gives (λ x. ((x.0.op, x.0.args), kinds x.1.now)) result
         (spec.operation spec.write_at 1 names.now most (kinds tokens.now)) }
 {
@@ -75,10 +79,11 @@ fn written<'a>(
 #[tactic(auto, unfolding(mit_script::specs::Reading::operation, mit_script::specs::Reading::number_ahead))]
 fn condition<'a>(
     alloc: Global,
-    names: &Numbered<'_>,
+    names: &VariableNames<'_>,
     most: usize,
     tokens: &'a [Token],
 ) -> Result<(Operation, &'a [Token]), Stop<'a>>
+    requires short { HasShortRuns (kinds tokens.now) }
     ensures { Gives (λ x. ((x.0.op, x.0.args), kinds x.1.now)) result
         (spec.operation spec.condition_at 7 names.now most (kinds tokens.now)) }
 {
@@ -91,16 +96,17 @@ fn condition<'a>(
 #[tactic(auto, unfolding(mit_script::specs::Reading::assignment))]
 fn assignment<'a>(
     alloc: Global,
-    names: &Numbered<'_>,
+    names: &VariableNames<'_>,
     most: usize,
     tokens: &'a [Token],
 ) -> Result<(Stmt, &'a [Token]), Stop<'a>>
+    requires short { HasShortRuns (kinds tokens.now) }
     ensures { Gives (λ x. (x.0, kinds x.1.now)) result (spec.assignment names.now most (kinds tokens.now)) }
 {
     let (target, rest) = name_at(tokens)?;
     let rest = expect_symbol(symbol::EQUALS, rest)?;
     let (Operation { op, args }, rest) = right(alloc, names, most, rest)?;
-    let target = names.variable(target)?;
+    let target = names.variable(target);
     Ok((Stmt::Assign { target, op, args }, rest))
 }
 
@@ -108,10 +114,11 @@ fn assignment<'a>(
 #[tactic(auto, unfolding(mit_script::specs::Reading::write))]
 fn write<'a>(
     alloc: Global,
-    names: &Numbered<'_>,
+    names: &VariableNames<'_>,
     most: usize,
     tokens: &'a [Token],
 ) -> Result<(Stmt, &'a [Token]), Stop<'a>>
+    requires short { HasShortRuns (kinds tokens.now) }
     ensures { Gives (λ x. (x.0, kinds x.1.now)) result (spec.write names.now most (kinds tokens.now)) }
 {
     let (Operation { op, args }, rest) = written(alloc, names, most, tokens)?;
@@ -123,11 +130,12 @@ fn write<'a>(
 #[tactic(auto, unfolding(mit_script::specs::Reading::block_at))]
 fn block_at<'a>(
     alloc: Global,
-    names: &Numbered<'_>,
+    names: &VariableNames<'_>,
     most: usize,
     left: usize,
     tokens: &'a [Token],
 ) -> Result<(Items<Stmt>, &'a [Token]), Stop<'a>>
+    requires short { HasShortRuns (kinds tokens.now) }
     ensures { Gives (λ x. (x.0, kinds x.1.now)) result
         (spec.block_at (spec.statements names.now most left) (kinds tokens.now)) }
 {
@@ -141,11 +149,12 @@ fn block_at<'a>(
 #[tactic(auto, unfolding(mit_script::specs::Reading::else_at))]
 fn else_at<'a>(
     alloc: Global,
-    names: &Numbered<'_>,
+    names: &VariableNames<'_>,
     most: usize,
     left: usize,
     tokens: &'a [Token],
 ) -> Result<(Items<Stmt>, &'a [Token]), Stop<'a>>
+    requires short { HasShortRuns (kinds tokens.now) }
     ensures { Gives (λ x. (x.0, kinds x.1.now)) result
         (spec.else_at (spec.statements names.now most left) (kinds tokens.now)) }
 {
@@ -161,11 +170,12 @@ fn else_at<'a>(
 #[tactic(auto, unfolding(mit_script::specs::Reading::branch))]
 fn branch<'a>(
     alloc: Global,
-    names: &Numbered<'_>,
+    names: &VariableNames<'_>,
     most: usize,
     left: usize,
     tokens: &'a [Token],
 ) -> Result<(Stmt, &'a [Token]), Stop<'a>>
+    requires short { HasShortRuns (kinds tokens.now) }
     ensures { Gives (λ x. (x.0, kinds x.1.now)) result
         (spec.branch (spec.statements names.now most left) names.now most (kinds tokens.now)) }
 {
@@ -179,11 +189,12 @@ fn branch<'a>(
 #[cycle(statements)]
 fn repeated<'a>(
     alloc: Global,
-    names: &Numbered<'_>,
+    names: &VariableNames<'_>,
     most: usize,
     left: usize,
     tokens: &'a [Token],
 ) -> Result<(Stmt, &'a [Token]), Stop<'a>>
+    requires short { HasShortRuns (kinds tokens.now) }
     ensures { Gives (λ x. (x.0, kinds x.1.now)) result
         (spec.loop (spec.statements names.now most left) names.now most (kinds tokens.now)) }
 {
@@ -197,11 +208,12 @@ fn repeated<'a>(
 #[tactic(auto, unfolding(mit_script::specs::Reading::statement))]
 fn statement<'a>(
     alloc: Global,
-    names: &Numbered<'_>,
+    names: &VariableNames<'_>,
     most: usize,
     left: usize,
     tokens: &'a [Token],
 ) -> Result<(Stmt, &'a [Token]), Stop<'a>>
+    requires short { HasShortRuns (kinds tokens.now) }
     ensures { Gives (λ x. (x.0, kinds x.1.now)) result
         (spec.statement (spec.statements names.now most left) names.now most (kinds tokens.now)) }
 {
@@ -245,11 +257,12 @@ fn begins_statement(tokens: &[Token]) -> bool
 #[cycle(statements)]
 fn statements<'a>(
     alloc: Global,
-    names: &Numbered<'_>,
+    names: &VariableNames<'_>,
     most: usize,
     left: usize,
     tokens: &'a [Token],
 ) -> Result<(Vec<Stmt>, &'a [Token]), Stop<'a>>
+    requires short { HasShortRuns (kinds tokens.now) }
     ensures { Gives (λ x. (x.0.items, kinds x.1.now)) result (spec.statements names.now most left (kinds tokens.now)) }
 {
     let mut found = Vec::new(alloc);
@@ -266,7 +279,12 @@ fn statements<'a>(
 }
 
 /// The statements of a script, which are all its tokens.
-fn body<'a>(alloc: Global, names: &Numbered<'_>, tokens: &'a [Token]) -> Result<Vec<Stmt>, Stop<'a>>
+fn body<'a>(
+    alloc: Global,
+    names: &VariableNames<'_>,
+    tokens: &'a [Token],
+) -> Result<Vec<Stmt>, Stop<'a>>
+    requires short { HasShortRuns (kinds tokens.now) }
     ensures { Gives (λ body. body.items) result
         (spec.ended (spec.statements names.now (length tokens.now + 1) (length tokens.now + 1) (kinds tokens.now))) }
 {
@@ -281,6 +299,9 @@ fn body<'a>(alloc: Global, names: &Numbered<'_>, tokens: &'a [Token]) -> Result<
 /// The script of these tokens.
 #[tactic(auto, unfolding(mit_script::specs::Reading::read_script))]
 pub(crate) fn read_script(alloc: Global, tokens: &[Token]) -> Result<Script, Stop<'_>>
+    requires few { length tokens.now ≤ 1048576 }
+    requires valid { All (λ token. IsToken token.kind) tokens.now }
+    requires short { HasShortRuns (kinds tokens.now) }
     ensures { Gives (λ script. script) result (spec.read_script (kinds tokens.now)) }
 {
     let names = variables(alloc, tokens)?;

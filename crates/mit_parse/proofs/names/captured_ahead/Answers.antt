@@ -1,14 +1,20 @@
-use Rattle.std.proofs.Common.{◌≡◌, ◌∙◌, ap, subst, drop}
-use Rattle.std.specs.Prelude.{IfOk}
-use Rattle.mit_script.specs.Grammar.{each_once, names_in}
-use Rattle.mit_script.specs.Reading.{run_of}
+use Rattle.std.proofs.Common.{◌≤◌, List, length, subst, sym, ℕ}
+use Rattle.mit_script.specs.Reading.{bags_ahead, run_of}
 use Rattle.mit_script.specs.Grammar.{kinds}
-use Rattle.mit_parse.proofs.Numbering.{past-words}
+use Rattle.mit_parse.proofs.NameBounds.{captured-few}
+use Rattle.mit_parse.proofs.Numbering.{captured-words}
+use Rattle.mit_parse.proofs.ShortRuns.{run_short}
 use Rattle.mit_parse.proofs.names.captured_ahead.Goals as goal
+
+pub invariant_of-result : goal.invariant_of-result
+invariant_of-result c =
+    let tokens = kinds c.args.tokens.now in
+    let captured = captured-words c.in_ok-numbered.numbered c.in_ok-words.words.items c.deref.result.now c.past.result.now c.bags_ahead.result (bags_ahead tokens) (kinds c.run.result.now) (run_of tokens)
+    c.in_ok-numbered.ensures c.past.ensures c.deref.ensures.value c.in_ok-words.ensures c.run.ensures c.bags_ahead.ensures in
+    subst (λ (names : List (List ℕ)). length names ≤ 65536) (sym captured) (captured-few (bags_ahead tokens) (run_of tokens) (run_short tokens c.requires.short))
 
 pub returns : goal.returns
 returns c =
-    let words = c.in_ok-words.ensures ∙ ap names_in c.run.ensures in
-    let past = past-words c.bags_ahead.result c.in_ok-words.words.items c.past.result.now (names_in (run_of (kinds c.args.tokens.now))) (c.past.ensures ∙ ap (λ list. drop c.bags_ahead.result list) c.deref.ensures.value) words in
-    let bags = ap (λ count. drop count (names_in (run_of (kinds c.args.tokens.now)))) c.bags_ahead.ensures in
-    subst (λ list. IfOk c.each_once.result (λ names. names ≡ each_once list)) (past ∙ bags) c.each_once.ensures
+    let tokens = kinds c.args.tokens.now in
+    captured-words c.in_ok-numbered.numbered c.in_ok-words.words.items c.deref.result.now c.past.result.now c.bags_ahead.result (bags_ahead tokens) (kinds c.run.result.now) (run_of tokens)
+    c.in_ok-numbered.ensures c.past.ensures c.deref.ensures.value c.in_ok-words.ensures c.run.ensures c.bags_ahead.ensures

@@ -1,0 +1,9 @@
+-- How many tokens stand in the runs of a text.
+use Rattle.std.specs.Prelude.{◌≤◌, [], ◌∷◌, length, ⊤}
+use Rattle.mit_script.specs.Grammar.{Kinds}
+use Rattle.mit_script.specs.Reading.{run_of}
+
+-- from each of these tokens on, the run ahead has at most 256 tokens
+unfoldable pub HasShortRuns : Kinds → Type 0
+HasShortRuns [] = ⊤
+HasShortRuns (token ∷ rest) = (length (run_of (token ∷ rest)) ≤ 256) × HasShortRuns rest
