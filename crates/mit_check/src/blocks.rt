@@ -1,39 +1,18 @@
 //! The check of statements, block by block.
-ghost use Rattle.std.specs.Prelude.{◌≡◌, ◌≤◌, ◌+◌, Ok, IfOk, IfErr, map};
+ghost use Rattle.std.specs.Prelude.{◌≡◌, ◌≤◌, ◌+◌, Ok, IfOk, IfErr, map, true};
 ghost use Rattle.mit_script.specs.Accepted as spec;
 ghost use Rattle.mit_script.specs.Accepted.{checked};
 ghost use Rattle.mit_script.specs.Trees.{IsFormed, count_of, count_of_all};
 ghost use Rattle.mit_check.specs.Tells.{TellsFault, known_in};
+ghost use Rattle.mit_check.specs.Trails.{Extends, are_fresh, marked};
 
 use crate::faults::CheckStop;
 use crate::operators::{assign, decide, write};
 use crate::tables::Tables;
+use crate::trail::{put_back, still_assigned, take_back};
 use mit_ops::VarType;
 use mit_script::{Name, Script, Stmt, Typed, VarTypes};
-use std::alloc::{AllocError, Global};
-
-/// The tables, with this in the place of what is assigned.
-fn with_assigned(assigned: Vec<bool>, tables: Tables) -> Tables
-    ensures known { known_in result ≡ spec.with_assigned assigned.items (known_in tables) }
-    ensures counted { result.before ≡ tables.before }
-{
-    let Tables { types, before, .. } = tables;
-    Tables {
-        assigned,
-        types,
-        before,
-    }
-}
-
-/// What is assigned in both of these.
-fn both(alloc: Global, one: &[bool], other: &[bool]) -> Result<Vec<bool>, AllocError>
-    ensures { IfOk result (λ assigned. assigned.items ≡ spec.both one.now other.now) }
-{
-    one.iter()
-        .zip(other.iter())
-        .map(|(one, other)| *one && *other)
-        .collect(alloc)
-}
+use std::alloc::Global;
 
 /// What is known behind the statements of a block.
 #[cycle(check_all)]
@@ -44,6 +23,7 @@ fn check_all(alloc: Global, tables: Tables, block: &[Stmt]) -> Result<Tables, Ch
     ensures fault { IfErr result (TellsFault
         (spec.in_order (map spec.check_of block.now) (known_in tables))) }
     ensures counted { IfOk result (λ after. after.before ≡ tables.before + count_of_all block.now) }
+    ensures extends { IfOk result (Extends tables) }
 {
     let mut known = tables;
     for stmt in block {
@@ -52,25 +32,27 @@ fn check_all(alloc: Global, tables: Tables, block: &[Stmt]) -> Result<Tables, Ch
     Ok(known)
 }
 
-/// What is known behind an `if`, by what is assigned behind its condition and what is known behind its first block.
+/// What is known behind an `if`, by what is known before its second block, and what became assigned in the first one.
 #[cycle(check_all)]
 fn check_other(
     alloc: Global,
-    before: Vec<bool>,
-    one: Tables,
+    before: Tables,
+    first: &[u32],
     no: &[Stmt],
 ) -> Result<Tables, CheckStop>
-    requires { one.before + count_of_all no.now ≤ 1048576 }
-    ensures passed { IfOk result (λ after. spec.rejoined (map spec.check_of no.now)
-        before.items (known_in one) ≡ Ok (known_in after)) }
-    ensures fault { IfErr result (TellsFault
-        (spec.rejoined (map spec.check_of no.now) before.items (known_in one))) }
-    ensures counted { IfOk result (λ after. after.before ≡ one.before + count_of_all no.now) }
+    requires { before.before + count_of_all no.now ≤ 1048576 }
+    ensures passed { IfOk result (λ after. spec.rejoined (map spec.check_of no.now) before.assigned.items
+        (spec.with_assigned (marked true first.now before.assigned.items) (known_in before)) ≡ Ok (known_in after)) }
+    ensures fault { IfErr result (TellsFault (spec.rejoined (map spec.check_of no.now) before.assigned.items
+        (spec.with_assigned (marked true first.now before.assigned.items) (known_in before)))) }
+    ensures counted { IfOk result (λ after. after.before ≡ before.before + count_of_all no.now) }
+    ensures extends { are_fresh before.assigned.items first.now ≡ true → IfOk result (Extends before) }
 {
-    let assigned = Vec::from_slice(alloc, &one.assigned)?;
-    let other = check_all(alloc, with_assigned(before, one), no)?;
-    let assigned = both(alloc, &assigned, &other.assigned)?;
-    Ok(with_assigned(assigned, other))
+    let size = before.trail.len();
+    let other = check_all(alloc, before, no)?;
+    let both = still_assigned(alloc, first, &other.assigned)?;
+    let (back, _) = take_back(other, size)?;
+    Ok(put_back(back, &both)?)
 }
 
 /// What is known behind a `while`, by what is known behind its condition.
@@ -82,10 +64,12 @@ fn check_body(alloc: Global, inside: Tables, body: &[Stmt]) -> Result<Tables, Ch
     ensures fault { IfErr result (TellsFault
         (spec.looped (map spec.check_of body.now) (known_in inside))) }
     ensures counted { IfOk result (λ after. after.before ≡ inside.before + count_of_all body.now) }
+    ensures extends { IfOk result (Extends inside) }
 {
-    let assigned = Vec::from_slice(alloc, &inside.assigned)?;
+    let size = inside.trail.len();
     let last = check_all(alloc, inside, body)?;
-    Ok(with_assigned(assigned, last))
+    let (back, _) = take_back(last, size)?;
+    Ok(back)
 }
 
 /// What is known behind a statement.
@@ -96,15 +80,17 @@ fn check_one(alloc: Global, tables: Tables, stmt: &Stmt) -> Result<Tables, Check
         spec.check_of stmt.now (known_in tables) ≡ Ok (known_in after)) }
     ensures fault { IfErr result (TellsFault (spec.check_of stmt.now (known_in tables))) }
     ensures counted { IfOk result (λ after. after.before ≡ tables.before + count_of stmt.now) }
+    ensures extends { IfOk result (Extends tables) }
 {
     match stmt {
         Stmt::Assign { target, op, args } => assign(alloc, tables, *target, op, args.as_slice()),
         Stmt::Write { op, args } => write(alloc, tables, op, args.as_slice()),
         Stmt::If { op, args, yes, no } => {
             let inside = decide(alloc, tables, op, args.as_slice())?;
-            let before = Vec::from_slice(alloc, &inside.assigned)?;
+            let size = inside.trail.len();
             let one = check_all(alloc, inside, yes.as_slice())?;
-            check_other(alloc, before, one, no.as_slice())
+            let (before, first) = take_back(one, size)?;
+            check_other(alloc, before, &first, no.as_slice())
         }
         Stmt::While { op, args, body } => {
             let inside = decide(alloc, tables, op, args.as_slice())?;

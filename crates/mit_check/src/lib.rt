@@ -5,6 +5,7 @@ mod blocks;
 mod faults;
 mod operators;
 mod tables;
+mod trail;
 
 pub use blocks::check;
 pub use faults::CheckStop;

@@ -3,9 +3,11 @@ ghost use Rattle.std.specs.Prelude.{◌≡◌, ◌+◌, ◌<◌, Ok, IfOk, IfErr
 ghost use Rattle.mit_ops.specs.Results.{IsBagType, Refuses};
 ghost use Rattle.mit_script.specs.Accepted as spec;
 ghost use Rattle.mit_check.specs.Tells.{TellsFault, TellsRefusal, known_in};
+ghost use Rattle.mit_check.specs.Trails.{Extends};
 
 use crate::faults::CheckStop;
 use crate::tables::{Kept, Tables};
+use crate::trail::mark;
 use mit_ops::{OpRefused, OpSpec, VarType, result_type};
 use mit_rows::ColType;
 use mit_script::CheckCode;
@@ -73,15 +75,6 @@ fn is_condition(is: &VarType) -> bool
     is.scalar && is.cols.as_slice() == [ColType::Bool].as_slice()
 }
 
-/// Marks a variable as assigned.
-fn mark(assigned: &mut Vec<bool>, variable: u32)
-    ensures { assigned.new.items ≡ slice_set assigned.old.items variable true }
-{
-    if (variable as usize) < assigned.len() {
-        assigned[variable as usize] = true;
-    }
-}
-
 /// Keeps the type of a variable.
 fn keep(types: &mut Vec<Option<Kept>>, variable: u32, is: Kept)
     ensures { types.new.items ≡ slice_set types.old.items variable (Some is) }
@@ -104,6 +97,7 @@ pub(crate) fn assign(
         spec.assigned_by target op.now args.now (known_in tables) ≡ Ok (known_in after)) }
     ensures fault { IfErr result (TellsFault (spec.assigned_by target op.now args.now (known_in tables))) }
     ensures counted { IfOk result (λ after. after.before ≡ tables.before + 1) }
+    ensures extends { IfOk result (Extends tables) }
 {
     let is = judge(alloc, &tables, op, args)?;
     if !tables.is_kept(target, is.get()) {
@@ -113,13 +107,15 @@ pub(crate) fn assign(
     }
     let Tables {
         mut assigned,
+        mut trail,
         mut types,
         before,
     } = tables;
-    mark(&mut assigned, target);
+    mark(&mut assigned, &mut trail, target)?;
     keep(&mut types, target, is);
     Ok(Tables {
         assigned,
+        trail,
         types,
         before: before + 1,
     })
@@ -128,15 +124,18 @@ pub(crate) fn assign(
 /// What is known behind one more statement.
 fn pass(tables: Tables) -> Tables
     requires { tables.before < 1048576 }
-    ensures { known_in result ≡ spec.passed (known_in tables) }
+    ensures known { known_in result ≡ spec.passed (known_in tables) }
+    ensures trail { result.trail ≡ tables.trail }
 {
     let Tables {
         assigned,
+        trail,
         types,
         before,
     } = tables;
     Tables {
         assigned,
+        trail,
         types,
         before: before + 1,
     }
@@ -154,6 +153,7 @@ pub(crate) fn write(
         spec.written_by op.now args.now (known_in tables) ≡ Ok (known_in after)) }
     ensures fault { IfErr result (TellsFault (spec.written_by op.now args.now (known_in tables))) }
     ensures counted { IfOk result (λ after. after.before ≡ tables.before + 1) }
+    ensures extends { IfOk result (Extends tables) }
 {
     judge(alloc, &tables, op, args)?;
     Ok(pass(tables))
@@ -171,6 +171,7 @@ pub(crate) fn decide(
         spec.decided_by op.now args.now (known_in tables) ≡ Ok (known_in after)) }
     ensures fault { IfErr result (TellsFault (spec.decided_by op.now args.now (known_in tables))) }
     ensures counted { IfOk result (λ after. after.before ≡ tables.before + 1) }
+    ensures extends { IfOk result (Extends tables) }
 {
     let is = judge(alloc, &tables, op, args)?;
     if !is_condition(is.get()) {

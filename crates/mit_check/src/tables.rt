@@ -6,6 +6,7 @@ ghost use Rattle.mit_ops.specs.Results.{AreBags, IsBagType};
 ghost use Rattle.mit_script.specs.Accepted as spec;
 ghost use Rattle.mit_check.specs.Tells.{known_in};
 
+use crate::trail::is_assigned;
 use mit_ops::{ColTypes, OpSpec, VarType};
 use mit_rows::ColType;
 use mit_script::Name;
@@ -52,6 +53,8 @@ impl Kept {
 pub(crate) struct Tables {
     /// Whether it is assigned on every path to here.
     pub(crate) assigned: Vec<bool>,
+    /// Those that became assigned, in this order, but for those that were taken back.
+    pub(crate) trail: Vec<u32>,
     /// The type of its first assignment in the text up to here.
     pub(crate) types: Vec<Option<Kept>>,
     /// How many statements stand before.
@@ -71,6 +74,7 @@ impl Tables {
         }
         Ok(Tables {
             assigned,
+            trail: Vec::new(alloc),
             types,
             before: 0,
         })
@@ -80,10 +84,7 @@ impl Tables {
     fn is_assigned(&self, variable: u32) -> bool
         ensures { result ≡ spec.is_assigned (known_in self.now) variable }
     {
-        match self.assigned.get(variable as usize) {
-            Some(is) => *is,
-            None => false,
-        }
+        is_assigned(&self.assigned, variable)
     }
 
     /// Whether these variables are assigned.
