@@ -22,7 +22,7 @@ use Rattle.mit_ops.specs.declared.kinds.OpSpec.{OpSpec}
 use Rattle.mit_ops.specs.declared.kinds.OpSpec.TheVariants as kind
 use Rattle.mit_ops.specs.declared.types.VarType.{VarType}
 use Rattle.mit_ops.specs.declared.types.OpRefused.TheVariants as refused
-use Rattle.mit_script.specs.Accepted.{Check, Known, and_then, argument, assigned_by, assigning, at_start, bags_of, check_of, check_step, checked, fault_at, fault_or, first_type, given, in_order, is_assigned, is_kept, judged, passed, type_of, typed_or_code, unset, written_by}
+use Rattle.mit_script.specs.Accepted.{Check, Known, and_then, assigned_by, assigning, at_start, bags_of, check_of, check_step, checked, fault_at, fault_or, first_type, given, in_order, is_assigned, is_kept, judged, passed, type_of, typed_or_code, written_by}
 use Rattle.mit_script.specs.Trees.{Head, IsFormed, IsFormedHead, IsNumbered, assigns, head_step, is_in_order, variables_of, writes}
 use Rattle.mit_script.specs.declared.tree.Script.{Script}
 use Rattle.mit_script.specs.declared.tree.Stmt.{Stmt, out-Stmt}
@@ -37,7 +37,7 @@ use Rattle.mit_engine.specs.Thin.{FormedFrom, MayAssign, columns_after}
 use Rattle.mit_engine.specs.Thin as thin
 use Rattle.mit_engine.specs.declared.thin.ThinStep.{ThinStep}
 use Rattle.mit_engine.specs.declared.thin.ThinStep.TheVariants as step
-use Rattle.mit_app.specs.ThinScript.{argument_at, assigned_step, before_steps, is_read, name_of, name_of_layer, name_of_value, step_of, step_of_layer, steps_of, thin_steps, written_step}
+use Rattle.mit_app.specs.ThinScript.{assigned_step, before_steps, is_read, name_of, name_of_layer, name_of_value, step_of, step_of_layer, steps_of, thin_steps, written_step}
 
 -- ---- options and tests
 
@@ -80,12 +80,6 @@ got_before (x ∷ xs) ys (suc i) within = got_before xs ys i (omega arith)
 got_end : {A : Type 0} (xs : List A) (y : A) → slice_get (xs ++ y ∷ []) (length xs) ≡ Some y
 got_end [] y = refl
 got_end (x ∷ xs) y = got_end xs y
-
--- what holds of all holds of the one at a place
-all_at : (p : ℕ → Bool) (xs : List ℕ) (i : ℕ) → i < length xs → list_all p xs ≡ true → p (slice_index_or xs i 0) ≡ true
-all_at p [] i within all = absurd (omega arith)
-all_at p (x ∷ xs) zero within all = (both_true (p x) (list_all p xs) all).0
-all_at p (x ∷ xs) (suc i) within all = all_at p xs i (omega arith) (both_true (p x) (list_all p xs) all).1
 
 -- two numbers are the same or differ
 same_or_other : (a b : ℕ) → (a ≡ b) ⊎ (a ≢ b)
@@ -244,24 +238,12 @@ given_count : (found : Option VarType) (has : Option ℕ) (count : ℕ) → colu
 given_count None has count same some = absurd cc
 given_count (Some type) has count same some = sym same
 
--- the type of an argument is that of its variable
-argument_type : (known : Known) (args : List ℕ) (place : ℕ) → place < length args → argument known args place ≡ type_of known (argument_at args place)
-argument_type known args place within = ap (λ found. unwrap_or (option_map (type_of known) found) unset) (slice_get-get_or args place 0 within)
-
--- an assigned argument has columns
-argument_below : (variables : ℕ) (known : Known) (columns args : List ℕ) (place : ℕ) → Agrees variables known columns
-    → list_all (is_assigned known) args ≡ true → place < length args → argument_at args place < length columns
-argument_below variables known columns args place now all within = now.assigned (argument_at args place) (all_at (is_assigned known) args place within all)
-
--- an argument has as many columns as its type
-argument_columns : (variables : ℕ) (known : Known) (columns args : List ℕ) (place : ℕ) → Agrees variables known columns
-    → list_all (is_assigned known) args ≡ true → place < length args
-    → slice_get columns (argument_at args place) ≡ Some (length (argument known args place).cols)
-argument_columns variables known columns args place now all within =
-    let variable : ℕ = argument_at args place in
-    let below : variable < length columns = argument_below variables known columns args place now all within in
+-- an assigned variable has as many columns as its type
+variable_columns : (variables : ℕ) (known : Known) (columns : List ℕ) (variable : ℕ) → Agrees variables known columns
+    → is_assigned known variable ≡ true → slice_get columns variable ≡ Some (length (type_of known variable).cols)
+variable_columns variables known columns variable now is =
+    let below : variable < length columns = now.assigned variable is in
     given_count (first_type known variable) (slice_get columns variable) (slice_index_or columns variable 0) (now.counted variable below) (slice_get-get_or columns variable 0 below)
-    ∙ ap (λ (type : VarType). Some (length type.cols)) (sym (argument_type known args place within))
 
 -- ---- names and types
 
@@ -375,15 +357,19 @@ union_next : (variables : ℕ) (columns : List ℕ) (known after : Known) (targe
     → 2 ≤ length args → Assignment variables columns known after target kind.Union args rest → assigned_step target kind.Union args ≡ Some one
     → Next variables columns one after rest
 unfolding FormedFrom
-union_next variables columns known after target args rest one now enough here is =
-    let both = union_cols (argument known args 0) (argument known args 1) here.type here.judged.captures here.judged.gives in
-    let left = argument_columns variables known columns args 0 now here.judged.all (omega arith) ∙ ap (λ (cols : List ColType). Some (length cols)) both.0 in
-    let right = argument_columns variables known columns args 1 now here.judged.all (omega arith) ∙ ap Some both.1 in
+union_next variables columns known after target [] rest one now enough here is = absurd (omega arith)
+union_next variables columns known after target (bag ∷ []) rest one now enough here is = absurd (omega arith)
+union_next variables columns known after target (bag ∷ other ∷ args) rest one now enough here is =
+    let both = union_cols (type_of known bag) (type_of known other) here.type here.judged.captures here.judged.gives in
+    let first = both_true (is_assigned known bag) (list_all (is_assigned known) (other ∷ args)) here.judged.all in
+    let second = both_true (is_assigned known other) (list_all (is_assigned known) args) first.1 in
+    let left = variable_columns variables known columns bag now first.0 ∙ ap (λ (cols : List ColType). Some (length cols)) both.0 in
+    let right = variable_columns variables known columns other now second.0 ∙ ap Some both.1 in
     record {
       later = columns_after columns target (length here.type.cols);
       agrees = here.agrees;
       ordered = here.ordered;
-      formed = λ steps formed. subst (λ (s : ThinStep). FormedFrom columns (s ∷ steps)) (same_Some (step.Union target (argument_at args 0) (argument_at args 1)) one is)
+      formed = λ steps formed. subst (λ (s : ThinStep). FormedFrom columns (s ∷ steps)) (same_Some (step.Union target bag other) one is)
           (length here.type.cols, left, right, here.may, formed);
     }
 
@@ -410,16 +396,17 @@ written_next : (variables : ℕ) (columns : List ℕ) (known after : Known) (nam
     → length args ≡ bag_inputs_of (kind.Write name) + captures_of (kind.Write name) → is_in_order (length columns) (args ++ rest) ≡ true
     → written_by (kind.Write name) args known ≡ Ok after → written_step (kind.Write name) args ≡ Some one → Next variables columns one after rest
 unfolding FormedFrom
-written_next variables columns known after name args rest one now complete ordered is gives =
-    let pass = passed_from known (judged known (kind.Write name) args) after is in
-    let found = judged_ok known (kind.Write name) args pass.0 pass.1 in
-    let named = mapped_from (λ file. step.Write (argument_at args 0) file) (name_of name) one gives in
+written_next variables columns known after name [] rest one now complete ordered is gives = absurd (omega arith)
+written_next variables columns known after name (bag ∷ args) rest one now complete ordered is gives =
+    let pass = passed_from known (judged known (kind.Write name) (bag ∷ args)) after is in
+    let found = judged_ok known (kind.Write name) (bag ∷ args) pass.0 pass.1 in
+    let named = mapped_from (step.Write bag) (name_of name) one gives in
     let legal = layer_named (out-Expr name) named.0 named.1 in
-    let below = argument_below variables known columns args 0 now found.all (omega arith) in
+    let below = now.assigned bag (both_true (is_assigned known bag) (list_all (is_assigned known) args) found.all).0 in
     record {
       later = columns;
       agrees = subst (λ (k : Known). Agrees variables k columns) pass.2 (agrees_passed variables known columns now);
-      ordered = order_past (is_assigned known) (length columns) args rest now.assigned found.all ordered;
+      ordered = order_past (is_assigned known) (length columns) (bag ∷ args) rest now.assigned found.all ordered;
       formed = λ steps formed. subst (λ (s : ThinStep). FormedFrom columns (s ∷ steps)) named.2 (legal, below, formed);
     }
 

@@ -1,2 +1,3 @@
+pub mod Bagged
 pub mod Statements
 pub mod Trails

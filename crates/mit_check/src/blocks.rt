@@ -1,8 +1,9 @@
 //! The check of statements, block by block.
-ghost use Rattle.std.specs.Prelude.{◌≡◌, ◌≤◌, ◌+◌, Ok, IfOk, IfErr, map, true};
+ghost use Rattle.std.specs.Prelude.{◌≡◌, ◌≤◌, ◌+◌, Ok, IfOk, IfErr, All, map, true};
 ghost use Rattle.mit_script.specs.Accepted as spec;
 ghost use Rattle.mit_script.specs.Accepted.{checked};
 ghost use Rattle.mit_script.specs.Trees.{IsFormed, count_of, count_of_all};
+ghost use Rattle.mit_check.specs.Bags.{HaveBags};
 ghost use Rattle.mit_check.specs.Tells.{TellsFault, known_in};
 ghost use Rattle.mit_check.specs.Trails.{Extends, are_fresh, marked};
 
@@ -17,7 +18,8 @@ use std::alloc::Global;
 /// What is known behind the statements of a block.
 #[cycle(check_all)]
 fn check_all(alloc: Global, tables: Tables, block: &[Stmt]) -> Result<Tables, CheckStop>
-    requires { tables.before + count_of_all block.now ≤ 1048576 }
+    requires few { tables.before + count_of_all block.now ≤ 1048576 }
+    requires complete { All HaveBags block.now }
     ensures passed { IfOk result (λ after.
         spec.in_order (map spec.check_of block.now) (known_in tables) ≡ Ok (known_in after)) }
     ensures fault { IfErr result (TellsFault
@@ -40,7 +42,8 @@ fn check_other(
     first: &[u32],
     no: &[Stmt],
 ) -> Result<Tables, CheckStop>
-    requires { before.before + count_of_all no.now ≤ 1048576 }
+    requires few { before.before + count_of_all no.now ≤ 1048576 }
+    requires complete { All HaveBags no.now }
     ensures passed { IfOk result (λ after. spec.rejoined (map spec.check_of no.now) before.assigned.items
         (spec.with_assigned (marked true first.now before.assigned.items) (known_in before)) ≡ Ok (known_in after)) }
     ensures fault { IfErr result (TellsFault (spec.rejoined (map spec.check_of no.now) before.assigned.items
@@ -58,7 +61,8 @@ fn check_other(
 /// What is known behind a `while`, by what is known behind its condition.
 #[cycle(check_all)]
 fn check_body(alloc: Global, inside: Tables, body: &[Stmt]) -> Result<Tables, CheckStop>
-    requires { inside.before + count_of_all body.now ≤ 1048576 }
+    requires few { inside.before + count_of_all body.now ≤ 1048576 }
+    requires complete { All HaveBags body.now }
     ensures passed { IfOk result (λ after.
         spec.looped (map spec.check_of body.now) (known_in inside) ≡ Ok (known_in after)) }
     ensures fault { IfErr result (TellsFault
@@ -75,7 +79,8 @@ fn check_body(alloc: Global, inside: Tables, body: &[Stmt]) -> Result<Tables, Ch
 /// What is known behind a statement.
 #[cycle(check_all)]
 fn check_one(alloc: Global, tables: Tables, stmt: &Stmt) -> Result<Tables, CheckStop>
-    requires { tables.before + count_of stmt.now ≤ 1048576 }
+    requires few { tables.before + count_of stmt.now ≤ 1048576 }
+    requires complete { HaveBags stmt.now }
     ensures passed { IfOk result (λ after.
         spec.check_of stmt.now (known_in tables) ≡ Ok (known_in after)) }
     ensures fault { IfErr result (TellsFault (spec.check_of stmt.now (known_in tables))) }
@@ -105,7 +110,8 @@ pub(crate) fn types_of(
     names: &[Name],
     body: &[Stmt],
 ) -> Result<Vec<VarType>, CheckStop>
-    requires { count_of_all body.now ≤ 1048576 }
+    requires few { count_of_all body.now ≤ 1048576 }
+    requires complete { All HaveBags body.now }
     ensures typed { IfOk result (λ types. spec.checked_body names.now body.now ≡ Ok types.items) }
     ensures fault { IfErr result (TellsFault (spec.checked_body names.now body.now)) }
 {

@@ -1,5 +1,6 @@
 //! The check of one statement, without those in its blocks.
-ghost use Rattle.std.specs.Prelude.{◌≡◌, ◌+◌, ◌<◌, Ok, IfOk, IfErr, drop, slice_set, true};
+ghost use Rattle.std.specs.Prelude.{◌≡◌, ◌+◌, ◌<◌, ◌≤◌, Ok, IfOk, IfErr, length, slice_set, true};
+ghost use Rattle.mit_ops.specs.Kinds.{bag_inputs_of};
 ghost use Rattle.mit_ops.specs.Results.{IsBagType, Refuses};
 ghost use Rattle.mit_script.specs.Accepted as spec;
 ghost use Rattle.mit_check.specs.Tells.{TellsFault, TellsRefusal, known_in};
@@ -12,13 +13,6 @@ use mit_ops::{OpRefused, OpSpec, VarType, result_type};
 use mit_rows::ColType;
 use mit_script::CheckCode;
 use std::alloc::{AllocError, Global};
-
-/// What stands behind the first of these.
-fn behind(args: &[u32], count: u16) -> &[u32]
-    ensures { result.now ≡ drop count args.now }
-{
-    args.get(usize::from(count)..).unwrap_or(&[])
-}
 
 /// A statement is refused as its operator is.
 fn refused(statement: u32, why: OpRefused) -> CheckStop
@@ -35,19 +29,22 @@ fn refused(statement: u32, why: OpRefused) -> CheckStop
 
 /// The type of what an operator gives over its arguments.
 fn infer(alloc: Global, tables: &Tables, op: &OpSpec, args: &[u32]) -> Result<VarType, OpRefused>
+    requires { bag_inputs_of op.now ≤ length args.now }
     ensures typed { IfOk result (λ type.
         spec.typed_by (known_in tables.now) op.now args.now ≡ Ok type) }
     ensures refused { IfErr result (Refuses (spec.typed_by (known_in tables.now) op.now args.now)) }
     ensures kept { IfOk result IsBagType }
 {
-    let bags = tables.bags(alloc, op, args)?;
-    let captures = tables.captures(alloc, behind(args, op.bag_inputs()))?;
+    let (bags, captured) = args.split_at(usize::from(op.bag_inputs()));
+    let bags = tables.bags(alloc, bags)?;
+    let captures = tables.captures(alloc, captured)?;
     result_type(alloc, op, &bags, &captures)
 }
 
 /// The type of what the operator of a statement gives.
 fn judge(alloc: Global, tables: &Tables, op: &OpSpec, args: &[u32]) -> Result<Kept, CheckStop>
-    requires { tables.now.before < 1048576 }
+    requires few { tables.now.before < 1048576 }
+    requires complete { bag_inputs_of op.now ≤ length args.now }
     ensures passed { IfOk result (λ type.
         spec.fault_or (known_in tables.now) (spec.judged (known_in tables.now) op.now args.now) ≡ Ok type) }
     ensures fault { IfErr result (TellsFault
@@ -58,7 +55,8 @@ fn judge(alloc: Global, tables: &Tables, op: &OpSpec, args: &[u32]) -> Result<Ke
         let code = CheckCode::Unassigned;
         return Err(CheckStop::Fault { statement, code });
     }
-    if !tables.are_scalars(behind(args, op.bag_inputs())) {
+    let (_, captured) = args.split_at(usize::from(op.bag_inputs()));
+    if !tables.are_scalars(captured) {
         let code = CheckCode::NotScalar;
         return Err(CheckStop::Fault { statement, code });
     }
@@ -92,7 +90,8 @@ pub(crate) fn assign(
     op: &OpSpec,
     args: &[u32],
 ) -> Result<Tables, CheckStop>
-    requires { tables.before < 1048576 }
+    requires few { tables.before < 1048576 }
+    requires complete { bag_inputs_of op.now ≤ length args.now }
     ensures passed { IfOk result (λ after.
         spec.assigned_by target op.now args.now (known_in tables) ≡ Ok (known_in after)) }
     ensures fault { IfErr result (TellsFault (spec.assigned_by target op.now args.now (known_in tables))) }
@@ -148,7 +147,8 @@ pub(crate) fn write(
     op: &OpSpec,
     args: &[u32],
 ) -> Result<Tables, CheckStop>
-    requires { tables.before < 1048576 }
+    requires few { tables.before < 1048576 }
+    requires complete { bag_inputs_of op.now ≤ length args.now }
     ensures passed { IfOk result (λ after.
         spec.written_by op.now args.now (known_in tables) ≡ Ok (known_in after)) }
     ensures fault { IfErr result (TellsFault (spec.written_by op.now args.now (known_in tables))) }
@@ -166,7 +166,8 @@ pub(crate) fn decide(
     op: &OpSpec,
     args: &[u32],
 ) -> Result<Tables, CheckStop>
-    requires { tables.before < 1048576 }
+    requires few { tables.before < 1048576 }
+    requires complete { bag_inputs_of op.now ≤ length args.now }
     ensures passed { IfOk result (λ after.
         spec.decided_by op.now args.now (known_in tables) ≡ Ok (known_in after)) }
     ensures fault { IfErr result (TellsFault (spec.decided_by op.now args.now (known_in tables))) }

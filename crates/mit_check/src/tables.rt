@@ -1,13 +1,12 @@
 //! What is known of the variables at a place in the text.
-ghost use Rattle.std.specs.Prelude.{◌≡◌, ◌∷◌, [], IfOk, length, map, flat_map};
+ghost use Rattle.std.specs.Prelude.{◌≡◌, IfOk, map, flat_map};
 ghost use Rattle.std.specs.List.{list_all};
-ghost use Rattle.mit_ops.specs.Kinds.{bag_inputs_of};
 ghost use Rattle.mit_ops.specs.Results.{AreBags, IsBagType};
 ghost use Rattle.mit_script.specs.Accepted as spec;
 ghost use Rattle.mit_check.specs.Tells.{known_in};
 
 use crate::trail::is_assigned;
-use mit_ops::{ColTypes, OpSpec, VarType};
+use mit_ops::{ColTypes, VarType};
 use mit_rows::ColType;
 use mit_script::Name;
 use std::alloc::{AllocError, Global};
@@ -144,58 +143,17 @@ impl Tables {
         })
     }
 
-    /// The type of the argument at a place.
-    fn argument(&self, alloc: Global, args: &[u32], place: usize) -> Result<VarType, AllocError>
-        ensures value { IfOk result (λ type. type ≡ spec.argument (known_in self.now) args.now place) }
-        ensures wide { IfOk result IsBagType }
+    /// The types of bags.
+    pub(crate) fn bags(&self, alloc: Global, variables: &[u32]) -> Result<Vec<VarType>, AllocError>
+        ensures value { IfOk result (λ bags. bags.items
+            ≡ map (spec.type_of (known_in self.now)) variables.now) }
+        ensures wide { IfOk result (λ bags. AreBags bags.items) }
     {
-        match args.get(place) {
-            Some(variable) => self.type_of(alloc, *variable),
-            None => Ok(unset(alloc)),
+        let mut bags = Vec::with_capacity(alloc, variables.len())?;
+        for variable in variables {
+            bags.push(self.type_of(alloc, *variable)?)?;
         }
-    }
-
-    /// The type of the first argument, alone.
-    fn one_bag(&self, alloc: Global, args: &[u32]) -> Result<Vec<VarType>, AllocError>
-        ensures value { IfOk result (λ bags. bags.items ≡ spec.argument (known_in self.now) args.now 0 ∷ []) }
-        ensures wide { IfOk result (λ bags. AreBags bags.items) }
-    {
-        let mut bags = Vec::with_capacity(alloc, 1)?;
-        bags.push(self.argument(alloc, args, 0)?)?;
         Ok(bags)
-    }
-
-    /// The types of the first two arguments.
-    fn two_bags(&self, alloc: Global, args: &[u32]) -> Result<Vec<VarType>, AllocError>
-        ensures value { IfOk result (λ bags. bags.items ≡ spec.argument (known_in self.now) args.now 0
-            ∷ spec.argument (known_in self.now) args.now 1 ∷ []) }
-        ensures wide { IfOk result (λ bags. AreBags bags.items) }
-    {
-        let mut bags = Vec::with_capacity(alloc, 2)?;
-        bags.push(self.argument(alloc, args, 0)?)?;
-        bags.push(self.argument(alloc, args, 1)?)?;
-        Ok(bags)
-    }
-
-    /// The types of an operator's bags.
-    pub(crate) fn bags(
-        &self,
-        alloc: Global,
-        op: &OpSpec,
-        args: &[u32],
-    ) -> Result<Vec<VarType>, AllocError>
-        ensures value { IfOk result (λ bags. bags.items ≡ spec.bags_of (known_in self.now) op.now args.now) }
-        ensures count { IfOk result (λ bags. length bags.items ≡ bag_inputs_of op.now) }
-        ensures wide { IfOk result (λ bags. AreBags bags.items) }
-    {
-        match op {
-            OpSpec::Scalar { .. }
-            | OpSpec::Read { .. }
-            | OpSpec::MakeRow { .. }
-            | OpSpec::Empty { .. } => Ok(Vec::new(alloc)),
-            OpSpec::Join { .. } | OpSpec::Union => self.two_bags(alloc, args),
-            _ => self.one_bag(alloc, args),
-        }
     }
 
     /// The columns of captured scalars, one after another.

@@ -1,6 +1,8 @@
 //! Variables have the numbers 0 to 3.
-ghost use Rattle.std.specs.Prelude.{◌≡◌, ◌≤◌, ◌+◌, ◌∷◌, []};
+ghost use Rattle.std.specs.Prelude.{◌≡◌, ◌≤◌, ◌+◌, ◌∷◌, [], length, All};
+ghost use Rattle.mit_ops.specs.Kinds.{bag_inputs_of};
 ghost use Rattle.mit_script.specs.Trees.{count_of, count_of_all};
+ghost use Rattle.mit_check.specs.Bags.{HaveBags};
 
 use super::*;
 use crate::blocks::types_of;
@@ -21,33 +23,45 @@ fn names(rt: &(impl Abort + AllocGlobal)) -> Names {
     Names::from_vec(names)
 }
 
-fn args(rt: &(impl Abort + AllocGlobal), variables: &[u32]) -> Args {
+fn args(rt: &(impl Abort + AllocGlobal), variables: &[u32]) -> Args
+    ensures { result ≡ variables.now }
+{
     Args::from_vec(Vec::from_slice(rt.alloc(), variables).expect(rt, "memory"))
 }
 
-fn literal(value: Value) -> OpSpec {
+fn literal(value: Value) -> OpSpec
+    ensures { bag_inputs_of result ≡ 0 }
+{
     OpSpec::Scalar {
         expr: Expr::Lit(value),
     }
 }
 
-fn int() -> OpSpec {
+fn int() -> OpSpec
+    ensures { bag_inputs_of result ≡ 0 }
+{
     literal(Value::Int(1))
 }
 
-fn truth() -> OpSpec {
+fn truth() -> OpSpec
+    ensures { bag_inputs_of result ≡ 0 }
+{
     literal(Value::Bool(true))
 }
 
 /// The captured scalar itself.
-fn captured() -> OpSpec {
+fn captured() -> OpSpec
+    ensures { bag_inputs_of result ≡ 0 }
+{
     OpSpec::Scalar {
         expr: Expr::Capture(0),
     }
 }
 
 /// A bag of so many columns of this type.
-fn empty(rt: &(impl Abort + AllocGlobal), is: ColType, count: usize) -> OpSpec {
+fn empty(rt: &(impl Abort + AllocGlobal), is: ColType, count: usize) -> OpSpec
+    ensures { bag_inputs_of result ≡ 0 }
+{
     let types = vec![in rt.alloc(); is; count].expect(rt, "memory");
     OpSpec::Empty {
         types: ColTypes::from_vec(types),
@@ -55,7 +69,9 @@ fn empty(rt: &(impl Abort + AllocGlobal), is: ColType, count: usize) -> OpSpec {
 }
 
 fn assign(rt: &(impl Abort + AllocGlobal), target: u32, op: OpSpec, variables: &[u32]) -> Stmt
-    ensures { count_of result ≡ 1 }
+    requires { bag_inputs_of op ≤ length variables.now }
+    ensures one { count_of result ≡ 1 }
+    ensures complete { HaveBags result }
 {
     Stmt::Assign {
         target,
@@ -70,7 +86,10 @@ fn while_of(
     variables: &[u32],
     body: Items<Stmt>,
 ) -> Stmt
-    ensures { count_of result ≡ 1 + count_of_all body }
+    requires complete { bag_inputs_of op ≤ length variables.now }
+    requires body { All HaveBags body }
+    ensures count { count_of result ≡ 1 + count_of_all body }
+    ensures complete { HaveBags result }
 {
     Stmt::While {
         op,
@@ -80,7 +99,10 @@ fn while_of(
 }
 
 fn if_of(rt: &(impl Abort + AllocGlobal), yes: Items<Stmt>, no: Items<Stmt>) -> Stmt
-    ensures { count_of result ≡ 1 + count_of_all yes + count_of_all no }
+    requires yes { All HaveBags yes }
+    requires no { All HaveBags no }
+    ensures count { count_of result ≡ 1 + count_of_all yes + count_of_all no }
+    ensures complete { HaveBags result }
 {
     Stmt::If {
         op: truth(),
@@ -109,7 +131,8 @@ fn two(rt: &(impl Abort + AllocGlobal), first: Stmt, second: Stmt) -> Items<Stmt
 
 /// The fault of these statements, or none.
 fn expect_stop(rt: &(impl Abort + AllocGlobal), body: &[Stmt], due: Option<(u32, CheckCode)>)
-    requires { count_of_all body.now ≤ 1048576 }
+    requires few { count_of_all body.now ≤ 1048576 }
+    requires complete { All HaveBags body.now }
 {
     let due = due.map(|(statement, code)| CheckStop::Fault { statement, code });
     let found = types_of(rt.alloc(), names(rt).as_slice(), body);
@@ -123,7 +146,10 @@ fn expect_second(
     op: OpSpec,
     variables: &[u32],
     due: Option<CheckCode>,
-) {
+)
+    requires first { bag_inputs_of first ≡ 0 }
+    requires second { bag_inputs_of op ≤ length variables.now }
+{
     let body = two(rt, assign(rt, 0, first, &[]), assign(rt, 1, op, variables));
     expect_stop(rt, body.as_slice(), due.map(|code| (2, code)));
 }
@@ -157,7 +183,10 @@ fn expect_again(
     first: OpSpec,
     second: OpSpec,
     due: Option<CheckCode>,
-) {
+)
+    requires first { bag_inputs_of first ≡ 0 }
+    requires second { bag_inputs_of second ≡ 0 }
+{
     let body = two(rt, assign(rt, 0, first, &[]), assign(rt, 0, second, &[]));
     expect_stop(rt, body.as_slice(), due.map(|code| (2, code)));
 }

@@ -10,10 +10,9 @@ use Rattle.mit_ops.specs.declared.kinds.OpSpec.{OpSpec}
 use Rattle.mit_ops.specs.declared.kinds.OpSpec.TheVariants.{Scalar}
 use Rattle.mit_script.specs.declared.tree.Script.{Script}
 use Rattle.mit_script.specs.declared.tree.Stmt.{Stmt}
-use Rattle.mit_script.specs.declared.tree.Stmt.TheFolds.{fold-Stmt, fold-roll-Stmt}
-use Rattle.mit_script.specs.declared.tree.Stmt.TheOpen as layer
-use Rattle.mit_script.specs.declared.tree.Stmt.TheVariants.{If, While, rolls-If, rolls-While}
-use Rattle.mit_script.specs.Trees.{AreArgs, Head, IsFormed, IsFormedHead, count_of, count_step, decides, head_step, use_step, uses_in}
+use Rattle.mit_script.specs.declared.tree.Stmt.TheVariants.{If, While}
+use Rattle.mit_script.specs.Trees.{AreArgs, IsFormed, IsFormedHead, count_of, decides, use_step, uses_in}
+use Rattle.mit_script.proofs.Heads.{count_of-If, count_of-While, heads_in, heads_in-If, heads_in-While}
 
 abbrev truth : OpSpec
 truth = Scalar (Lit (Truth true))
@@ -31,25 +30,16 @@ no_uses : uses_in (Lit (Truth true)) ≡ []
 no_uses = ap uses_in (sym (rolls-Lit (Truth true))) ∙ fold-roll-Expr (List ℕ) use_step (expr.Lit (Truth true))
 
 one : count_of looping ≡ 1
-one = ap count_of (sym (rolls-While truth [] [])) ∙ fold-roll-Stmt ℕ count_step (layer.While truth [] [])
+one = count_of-While truth [] []
 
 three : count_of choice ≡ 3
-three =
-    ap count_of (sym (rolls-If truth [] (looping ∷ []) (looping ∷ [])))
-    ∙ fold-roll-Stmt ℕ count_step (layer.If truth [] (looping ∷ []) (looping ∷ []))
-    ∙ rw one refl
-
-abbrev heads_in : Stmt → List Head
-heads_in = fold-Stmt (List Head) head_step
+three = count_of-If truth [] (looping ∷ []) (looping ∷ []) ∙ rw one refl
 
 one_head : heads_in looping ≡ decides truth [] ∷ []
-one_head = ap heads_in (sym (rolls-While truth [] [])) ∙ fold-roll-Stmt (List Head) head_step (layer.While truth [] [])
+one_head = heads_in-While truth [] []
 
 three_heads : heads_in choice ≡ decides truth [] ∷ decides truth [] ∷ decides truth [] ∷ []
-three_heads =
-    ap heads_in (sym (rolls-If truth [] (looping ∷ []) (looping ∷ [])))
-    ∙ fold-roll-Stmt (List Head) head_step (layer.If truth [] (looping ∷ []) (looping ∷ []))
-    ∙ rw one_head refl
+three_heads = heads_in-If truth [] (looping ∷ []) (looping ∷ []) ∙ rw one_head refl
 
 no_args : (variables : ℕ) → AreArgs variables truth []
 no_args variables = record {

@@ -14,12 +14,10 @@ use Rattle.mit_lex.specs.declared.symbol.TheConstants as symbol
 use Rattle.mit_lex.specs.declared.keyword.TheConstants as word
 use Rattle.mit_script.specs.Grammar
 use Rattle.mit_script.specs.Grammar.{Kinds, SpellsBody, SpellsCondition, SpellsElse, SpellsOver, SpellsRight, SpellsStmt, SpellsWrite, arguments_in, captured_in, each_once, name_in, names_in, number_in}
-use Rattle.mit_script.specs.Trees.{AreArgs, Head, IsFormedHead, assigns, count_of, count_of_all, count_step, decides, head_step, is_scalar, is_write, variables_of, writes}
+use Rattle.mit_script.specs.Trees.{AreArgs, Head, IsFormedHead, assigns, count_of, count_of_all, decides, is_scalar, is_write, variables_of, writes}
 use Rattle.mit_script.specs.declared.tree.Stmt.{Stmt}
-use Rattle.mit_script.specs.declared.tree.Stmt.TheFolds.{fold-Stmt, fold-roll-Stmt}
-use Rattle.mit_script.specs.declared.tree.Stmt.TheOpen as layer
-use Rattle.mit_script.specs.declared.tree.Stmt.TheVariants as stmt
 use Rattle.mit_script.proofs.FormedOps.{CountedOp, condition_counted, right_counted, write_counted}
+use Rattle.mit_script.proofs.Heads.{count_of-Assign, count_of-If, count_of-While, count_of-Write, heads_in, heads_in-Assign, heads_in-If, heads_in-While, heads_in-Write}
 use Rattle.mit_script.proofs.NamesOnce.{each_once_joined, each_once_twice, names_in-append}
 use Rattle.mit_script.proofs.NamesOrder.{bound_of, bound_of-names, names_in_order, number_in_below}
 
@@ -62,47 +60,6 @@ words_in_order : (bags : ℕ) (words : List (List ℕ)) → each_once (words_of 
 words_in_order bags words =
     each_once_joined (take bags words) (take bags words) (each_once (drop bags words)) (drop bags words) refl (each_once_twice (drop bags words))
     ∙ ap each_once (take-append-drop bags words)
-
--- ---- heads and numbers of statements
-
--- the heads of a statement
-abbrev pub heads_in : Stmt → List Head
-heads_in = fold-Stmt (List Head) head_step
-
-joined_map : {A B : Type 0} (f : A → List B) (xs : List A) → flat_map (λ x. x) (map f xs) ≡ flat_map f xs
-joined_map f [] = refl
-joined_map f (x ∷ xs) = ap (λ rest. f x ++ rest) (joined_map f xs)
-
-heads_in-Assign : (target : ℕ) (op : OpSpec) (args : List ℕ) → heads_in (stmt.Assign target op args) ≡ assigns target op args ∷ []
-heads_in-Assign target op args = ap heads_in (sym (stmt.rolls-Assign target op args)) ∙ fold-roll-Stmt (List Head) head_step (layer.Assign target op args)
-
-heads_in-Write : (op : OpSpec) (args : List ℕ) → heads_in (stmt.Write op args) ≡ writes op args ∷ []
-heads_in-Write op args = ap heads_in (sym (stmt.rolls-Write op args)) ∙ fold-roll-Stmt (List Head) head_step (layer.Write op args)
-
-heads_in-If : (op : OpSpec) (args : List ℕ) (on_true on_false : List Stmt)
-    → heads_in (stmt.If op args on_true on_false) ≡ decides op args ∷ flat_map heads_in on_true ++ flat_map heads_in on_false
-heads_in-If op args on_true on_false =
-    ap heads_in (sym (stmt.rolls-If op args on_true on_false)) ∙ fold-roll-Stmt (List Head) head_step (layer.If op args on_true on_false)
-    ∙ rw (joined_map heads_in on_true, joined_map heads_in on_false) refl
-
-heads_in-While : (op : OpSpec) (args : List ℕ) (body : List Stmt) → heads_in (stmt.While op args body) ≡ decides op args ∷ flat_map heads_in body
-heads_in-While op args body =
-    ap heads_in (sym (stmt.rolls-While op args body)) ∙ fold-roll-Stmt (List Head) head_step (layer.While op args body)
-    ∙ rw (joined_map heads_in body) refl
-
-count_of-Assign : (target : ℕ) (op : OpSpec) (args : List ℕ) → count_of (stmt.Assign target op args) ≡ 1
-count_of-Assign target op args = ap count_of (sym (stmt.rolls-Assign target op args)) ∙ fold-roll-Stmt ℕ count_step (layer.Assign target op args)
-
-count_of-Write : (op : OpSpec) (args : List ℕ) → count_of (stmt.Write op args) ≡ 1
-count_of-Write op args = ap count_of (sym (stmt.rolls-Write op args)) ∙ fold-roll-Stmt ℕ count_step (layer.Write op args)
-
-count_of-If : (op : OpSpec) (args : List ℕ) (on_true on_false : List Stmt)
-    → count_of (stmt.If op args on_true on_false) ≡ 1 + count_of_all on_true + count_of_all on_false
-count_of-If op args on_true on_false =
-    ap count_of (sym (stmt.rolls-If op args on_true on_false)) ∙ fold-roll-Stmt ℕ count_step (layer.If op args on_true on_false)
-
-count_of-While : (op : OpSpec) (args : List ℕ) (body : List Stmt) → count_of (stmt.While op args body) ≡ 1 + count_of_all body
-count_of-While op args body = ap count_of (sym (stmt.rolls-While op args body)) ∙ fold-roll-Stmt ℕ count_step (layer.While op args body)
 
 -- ---- statements
 

@@ -1,4 +1,5 @@
 pub mod StmtTexts
+pub mod Heads
 pub mod FormedExample
 pub mod Readers
 pub mod ExprFacts
@@ -22,7 +23,6 @@ pub mod StmtOperation
 pub mod StmtForms
 pub mod StmtBodies
 pub mod ScriptReading
-pub mod BagArguments
 pub mod PrintWords
 pub mod PrintNames
 pub mod PrintExprs

@@ -1,11 +1,10 @@
 -- Which scripts are accepted, with the types of their variables, and which statement is refused first, and why.
-use Rattle.std.specs.Prelude.{ℕ, ◌+◌, List, [], ◌∷◌, map, drop, zip, flat_map, Bool, true, false, not, ◌&&◌, if◌then◌else◌, Option, Some, None, option_map, unwrap_or, Result, Ok, Err, slice_get, slice_set}
+use Rattle.std.specs.Prelude.{ℕ, ◌+◌, List, [], ◌∷◌, map, take, drop, zip, flat_map, Bool, true, false, not, ◌&&◌, if◌then◌else◌, Option, Some, None, unwrap_or, Result, Ok, Err, slice_get, slice_set}
 use Rattle.std.specs.List.{list_all}
 use Rattle.mit_rows.specs.declared.value.ColType.TheVariants.{Bool as Truth}
 use Rattle.mit_ops.specs.Kinds.{bag_inputs_of}
 use Rattle.mit_ops.specs.Results.{same_types, typed_as}
 use Rattle.mit_ops.specs.declared.kinds.OpSpec.{OpSpec}
-use Rattle.mit_ops.specs.declared.kinds.OpSpec.TheVariants as op
 use Rattle.mit_ops.specs.declared.types.VarType.{VarType}
 use Rattle.mit_ops.specs.declared.types.OpRefused.{OpRefused}
 use Rattle.mit_ops.specs.declared.types.OpRefused.TheVariants as refused
@@ -44,19 +43,9 @@ first_type known variable = unwrap_or (slice_get known.types variable) None
 abbrev pub type_of : Known → ℕ → VarType
 type_of known variable = given (first_type known variable)
 
--- the type of the argument at a place
-abbrev pub argument : Known → List ℕ → ℕ → VarType
-argument known args place = unwrap_or (option_map (type_of known) (slice_get args place)) unset
-
 -- the types of an operator's bags, which are its first arguments
 abbrev pub bags_of : Known → OpSpec → List ℕ → List VarType
-bags_of known (op.Scalar expr) args = []
-bags_of known (op.Read name types) args = []
-bags_of known (op.MakeRow exprs) args = []
-bags_of known (op.Empty types) args = []
-bags_of known (op.Join left right) args = argument known args 0 ∷ argument known args 1 ∷ []
-bags_of known op.Union args = argument known args 0 ∷ argument known args 1 ∷ []
-bags_of known _ args = argument known args 0 ∷ []
+bags_of known operator args = map (type_of known) (take (bag_inputs_of operator) args)
 
 -- the captured variables, behind the bags
 abbrev pub captured : OpSpec → List ℕ → List ℕ

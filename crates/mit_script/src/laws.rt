@@ -1,8 +1,5 @@
 //! Laws of the grammar. Each is the contract of a function that does nothing.
-ghost use Rattle.std.specs.Prelude.{◌≡◌, ◌≤◌, ℕ, List, length, map, take, MatchResult};
-ghost use Rattle.mit_ops.specs.Kinds.{bag_inputs_of};
-ghost use Rattle.mit_ops.specs.declared.kinds.OpSpec.{OpSpec};
-ghost use Rattle.mit_script.specs.Accepted.{Known, bags_of, type_of};
+ghost use Rattle.std.specs.Prelude.{◌≡◌, ◌≤◌, length, MatchResult};
 ghost use Rattle.mit_script.specs.Grammar.{Kinds, Spells, StopsBefore};
 ghost use Rattle.mit_script.specs.Reading.{read_script};
 ghost use Rattle.mit_script.specs.Trees.{IsFormed, IsNumbered};
@@ -24,10 +21,4 @@ pub fn reading_law()
 pub fn formed_law()
     ensures formed { (tokens : Kinds) (script : Script) → Spells script tokens → length tokens ≤ 1048576 → IsFormed script }
     ensures numbered { (tokens : Kinds) (script : Script) → Spells script tokens → IsNumbered script }
-{}
-
-/// Where an operator has its arguments, the check takes the first of them for its bags, as many as it has.
-pub fn bags_law()
-    ensures { (known : Known) (op : OpSpec) (args : List ℕ) → bag_inputs_of op ≤ length args
-        → bags_of known op args ≡ map (type_of known) (take (bag_inputs_of op) args) }
 {}

@@ -1,11 +1,15 @@
-use Rattle.std.proofs.Common.{◌≡◌, ◌∙◌, Ok, ap, arith, filter, map, subst, sym}
+use Rattle.std.proofs.Common.{◌≡◌, ◌∙◌, ◌+◌, ◌≤◌, All, Ok, ap, arith, filter, map, rules, subst, sym, tests}
 use Rattle.std.specs.Prelude.{IfErr, IfOk}
 use Rattle.std.proofs.lemmas.Grind.{common_steps}
 use Rattle.std.proofs.lemmas.Result.{IfOk-weaker}
 use Rattle.mit_script.specs.Accepted as spec
+use Rattle.mit_script.specs.Trees.{count_of_all}
+use Rattle.mit_script.specs.declared.tree.Stmt.{the_lemmas}
+use Rattle.mit_check.specs.Bags.{HaveBags}
 use Rattle.mit_check.specs.Tells.{TellsFault, known_in}
 use Rattle.mit_check.specs.Trails.{Extends, is_in}
-use Rattle.mit_check.proofs.Statements.{check_of-If}
+use Rattle.mit_check.proofs.Bagged.{assign_bags, if_bags, while_bags, write_bags}
+use Rattle.mit_check.proofs.Statements.{check_of-If, count_of-If, count_of-While}
 use Rattle.mit_check.proofs.Trails.{branched_on, extends_by_none, extends_joined, extends_twice, joined, restored}
 use Rattle.mit_check.proofs.blocks.+check_all.Goals as goal
 
@@ -70,3 +74,34 @@ check_one-returns-in_ok-before-in-If-clause-extends t c =
     let inside = extends_twice c.args.tables c.in_ok-inside-in-If.inside c.in_ok-before-in-If.before c.in_ok-inside-in-If.ensures.extends (extends_by_none c.in_ok-inside-in-If.inside c.in_ok-before-in-If.before back.trail back.assigned) in
     IfOk-weaker c.check_other.result (Extends c.in_ok-before-in-If.before) (Extends c.args.tables)
     (λ after more. extends_twice c.args.tables c.in_ok-before-in-If.before after inside more) (c.check_other.ensures.extends (rw (c.deref.ensures.value, back.assigned) back.fresh))
+
+pub check_one-assign-requires-clause-complete : goal.check_one-assign-requires-clause-complete
+check_one-assign-requires-clause-complete t c = rw c.as_slice.ensures (assign_bags c.in-Assign.is c.requires.complete)
+
+pub check_one-write-requires-clause-complete : goal.check_one-write-requires-clause-complete
+check_one-write-requires-clause-complete t c = rw c.as_slice-in-Write.ensures (write_bags c.in-Write.is c.requires.complete)
+
+pub check_one-decide-requires-clause-complete : goal.check_one-decide-requires-clause-complete
+check_one-decide-requires-clause-complete t c = rw c.as_slice-in-If.ensures (if_bags _ _ c.in-If.is c.requires.complete).0
+
+pub check_one-decide-requires-in-While-clause-complete : goal.check_one-decide-requires-in-While-clause-complete
+check_one-decide-requires-in-While-clause-complete t c = rw c.as_slice-in-While.ensures (while_bags _ c.in-While.is c.requires.complete).0
+
+pub check_one-check_all-requires : goal.check_one-check_all-requires
+check_one-check_all-requires t c =
+    let inside : All HaveBags c.as_slice-in-If-2.result.now = rw c.as_slice-in-If-2.ensures (if_bags _ _ c.in-If.is c.requires.complete).1 in
+    let room : c.args.tables.before + (1 + count_of_all c.in-If.yes + count_of_all c.in-If.no) ≤ 1048576 = rw (count_of-If c.in-If.op c.in-If.args c.in-If.yes c.in-If.no) at (rw c.in-If.is at c.requires.few) in
+    (search (rules, the_lemmas), (rw c.as_slice-in-If-2.ensures (omega (arith, room, c.in_ok-inside-in-If.ensures.counted)), inside))
+
+pub check_one-check_other-requires : goal.check_one-check_other-requires
+check_one-check_other-requires t c =
+    let back = restored c.in_ok-inside-in-If.inside c.in_ok-one-in-If.one c.in_ok-before-in-If.before c.in_ok-before-in-If.first.items c.len-size.result (c.len-size.ensures ∙ c.in_ok-inside-in-If.inside.trail.ok.0) c.in_ok-one-in-If.ensures.extends c.in_ok-before-in-If.ensures.known c.in_ok-before-in-If.ensures.trail c.in_ok-before-in-If.ensures.taken in
+    let inside : All HaveBags c.as_slice-in-If-3.result.now = rw c.as_slice-in-If-3.ensures (if_bags _ _ c.in-If.is c.requires.complete).2 in
+    let before : c.in_ok-before-in-If.before.before ≡ c.in_ok-one-in-If.one.before = ap (λ (k : spec.Known). k.before) back.known in
+    search (rules, the_lemmas, tests, common_steps)
+
+pub check_one-check_body-requires : goal.check_one-check_body-requires
+check_one-check_body-requires t c =
+    let inside : All HaveBags c.as_slice-in-While-2.result.now = rw c.as_slice-in-While-2.ensures (while_bags _ c.in-While.is c.requires.complete).1 in
+    let room : c.args.tables.before + (1 + count_of_all c.in-While.body) ≤ 1048576 = rw (count_of-While c.in-While.op c.in-While.args c.in-While.body) at (rw c.in-While.is at c.requires.few) in
+    (search (rules, the_lemmas), (rw c.as_slice-in-While-2.ensures (omega (arith, room, c.in_ok-inside-in-While.ensures.counted)), inside))
