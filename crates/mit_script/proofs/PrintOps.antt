@@ -8,7 +8,6 @@ use Rattle.mit_rows.specs.declared.value.ColType.{ColType}
 use Rattle.mit_rows.specs.declared.value.Value.TheVariants as value
 use Rattle.mit_expr.specs.declared.expr.Expr.{Expr}
 use Rattle.mit_expr.specs.declared.expr.Expr.TheVariants as expr
-use Rattle.mit_expr.specs.declared.expr.Expr.TheVariants.{rolls-Bin, rolls-Lit, rolls-Not, rolls-Call, rolls-Column, rolls-Capture}
 use Rattle.mit_ops.specs.Kinds.{bag_inputs_of}
 use Rattle.mit_ops.specs.declared.kinds.Agg.{Agg}
 use Rattle.mit_ops.specs.declared.kinds.Agg.TheVariants as agg
@@ -20,7 +19,7 @@ use Rattle.mit_lex.specs.declared.symbol.TheConstants as symbol
 use Rattle.mit_lex.specs.declared.keyword.TheConstants as word
 use Rattle.mit_script.specs.Grammar.{Kinds, Listed, single, and_more, SpellsExpr, SpellsType, SpellsColumn, SpellsRight, SpellsWrite, SpellsCondition, SpellsOver, agg_tokens, each_once, is_name, names_in, number_in, read_form, map_form, filter_form, words_form, range_form, join_form, reduce_form, union_form, distinct_form, only_form, count_form, sum_form, row_form, empty_form, copy_form, scalar_form, write_form, condition_form, stronger, binary, negated, positive, negative, text_literal, truth_literal, column_place, captured_name, called, enclosed}
 use Rattle.mit_script.specs.Words as words
-use Rattle.mit_script.specs.Words.{Tokens, column_token, column_tokens, columns_tokens, comma, expr_tokens, named, op_tokens, type_tokens}
+use Rattle.mit_script.specs.Words.{Tokens, column_tokens, columns_tokens, comma, expr_tokens, named, op_tokens, type_tokens}
 use Rattle.mit_script.proofs.NamesSingle.{is_name-Bin, is_name-Call, is_name-Capture, is_name-Column, is_name-Lit, is_name-Not}
 use Rattle.mit_script.proofs.PrintNames.{IsFound, each_back, each_both, each_front, each_drop, names_in-append, names_in-cons, names_in-enclosed, names_in-name, once_found}
 use Rattle.mit_script.proofs.PrintExprs.{FindsName, expr_reprint, weaken}
