@@ -3,11 +3,11 @@ use Rattle.std.proofs.Common.{◌≡◌, ◌≢◌, ◌∙◌, ◌+◌, ◌<◌,
 use Rattle.std.specs.List.{list_all}
 use Rattle.std.specs.Cmp.Lexicographic.{as_long}
 use Rattle.std.specs.Option.{ok_or}
-use Rattle.std.proofs.lemmas.List.{get_or-set_same, get_or-set_other, length-append, length-set, length-map}
-use Rattle.std.proofs.lemmas.List.Elements.{All-cons, All-head, All-nil, All-tail}
+use Rattle.std.proofs.lemmas.List.{drop_at, get_or-set_same, get_or-set_other, length-append, length-set, length-map, take_at}
+use Rattle.std.proofs.lemmas.List.Elements.{All-drop, All-head, All-take}
 use Rattle.std.proofs.lemmas.Grind.{flat_map-append}
 use Rattle.std.proofs.lemmas.Option.{slice_get-get_or, slice_get_within, unwrap_or-slice_get}
-use Rattle.std.proofs.lemmas.Bool.{false≢true, ltb-true, leb-true, lt-ltb, le-ltb}
+use Rattle.std.proofs.lemmas.Bool.{and_parts, false≢true, ltb-true, leb-true, lt-ltb, le-ltb}
 use Rattle.mit_rows.specs.declared.value.ColType.{ColType}
 use Rattle.mit_rows.specs.declared.value.ColType.TheVariants.{Int}
 use Rattle.mit_rows.specs.declared.value.Value.{Value}
@@ -23,10 +23,10 @@ use Rattle.mit_ops.specs.declared.kinds.OpSpec.TheVariants as kind
 use Rattle.mit_ops.specs.declared.types.VarType.{VarType}
 use Rattle.mit_ops.specs.declared.types.OpRefused.TheVariants as refused
 use Rattle.mit_script.specs.Accepted.{Check, Known, and_then, assigned_by, assigning, at_start, bags_of, check_of, check_step, checked, fault_at, fault_or, first_type, given, in_order, is_assigned, is_kept, judged, passed, type_of, typed_or_code, written_by}
-use Rattle.mit_script.specs.Trees.{Head, IsFormed, IsFormedHead, IsNumbered, assigns, head_step, is_in_order, variables_of, writes}
+use Rattle.mit_script.specs.Trees.{Head, IsFormed, IsFormedHead, IsNumbered, assigns, head_step, heads_in, is_in_order, variables_of, writes}
 use Rattle.mit_script.specs.declared.tree.Script.{Script}
 use Rattle.mit_script.specs.declared.tree.Stmt.{Stmt, out-Stmt}
-use Rattle.mit_script.specs.declared.tree.Stmt.TheFolds.{fold-Stmt, fold-roll-Stmt}
+use Rattle.mit_script.specs.declared.tree.Stmt.TheFolds.{fold-roll-Stmt}
 use Rattle.mit_script.specs.declared.tree.Stmt.TheOpen.{Stmt-F}
 use Rattle.mit_script.specs.declared.tree.Stmt.TheOpen as stmt
 use Rattle.mit_script.specs.declared.tree.Stmt.TheViews.{roll-Stmt, roll-out-Stmt}
@@ -55,12 +55,14 @@ mapped_from : {A B : Type 0} (f : A → B) (found : Option A) (item : B) → opt
 mapped_from f None item is = absurd cc
 mapped_from f (Some a) item is = (a, refl, same_Some (f a) item is)
 
--- where both hold, each holds
-both_true : (a b : Bool) → (a && b) ≡ true → (a ≡ true) × (b ≡ true)
-both_true true b is = (refl, is)
-both_true false b is = absurd cc
-
 -- ---- lists
+
+-- what holds of the items of joined lists holds of those of the first, and of the second
+all_front : {X : Type 0} (P : X → Type 0) (xs ys : List X) → All P (xs ++ ys) → All P xs
+all_front P xs ys all = subst (All P) (take_at xs ys (length xs) refl) (All-take P (length xs) (xs ++ ys) all)
+
+all_back : {X : Type 0} (P : X → Type 0) (xs ys : List X) → All P (xs ++ ys) → All P ys
+all_back P xs ys all = subst (All P) (drop_at xs ys (length xs) refl) (All-drop P (length xs) (xs ++ ys) all)
 
 -- what is written at a place is read there
 read_set : {A : Type 0} (xs : List A) (i : ℕ) (x d : A) → i < length xs → unwrap_or (slice_get (slice_set xs i x) i) d ≡ x
@@ -149,7 +151,7 @@ columns_grow columns target count new = ap (λ test. if test then columns else c
 kept_count : (found : Option VarType) (has : Option ℕ) (count : ℕ) (type : VarType) → columns_in found ≡ has → has ≡ Some count → is_kept found type ≡ true → has ≡ Some (length type.cols)
 kept_count None has count type same some kept = absurd cc
 kept_count (Some found) has count type same some kept =
-    sym same ∙ ap Some (as_long same_type found.cols type.cols (both_true _ (same_types found.cols type.cols) kept).1)
+    sym same ∙ ap Some (as_long same_type found.cols type.cols (and_parts _ (same_types found.cols type.cols) kept).1)
 
 -- what follows an assignment
 record Placed (variables : ℕ) (columns : List ℕ) (known : Known) (target : ℕ) (type : VarType) : Type 0 where
@@ -200,9 +202,9 @@ order_past : (p : ℕ → Bool) (next : ℕ) (args rest : List ℕ) → ((variab
     → is_in_order next (args ++ rest) ≡ true → is_in_order next rest ≡ true
 order_past p next [] rest below all ordered = ordered
 order_past p next (arg ∷ args) rest below all ordered =
-    let both = both_true (p arg) (list_all p args) all in
+    let both = and_parts (p arg) (list_all p args) all in
     let old : max next (arg + 1) ≡ next = omega (arith, below arg both.0) in
-    let later = (both_true (nat_le arg next) (is_in_order (max next (arg + 1)) (args ++ rest)) ordered).1 in
+    let later = (and_parts (nat_le arg next) (is_in_order (max next (arg + 1)) (args ++ rest)) ordered).1 in
     order_past p next args rest below both.1 (rw old at later)
 
 -- ---- what an accepted operator gives
@@ -319,7 +321,7 @@ assignment : (variables : ℕ) (columns : List ℕ) (known after : Known) (targe
 assignment variables columns known after target operator args rest now within ordered is =
     let kept = kept_from known target (judged known operator args) after is in
     let found = judged_ok known operator args kept.type kept.is in
-    let both = both_true (nat_le target (length columns)) (is_in_order (max (length columns) (target + 1)) (args ++ rest)) ordered in
+    let both = and_parts (nat_le target (length columns)) (is_in_order (max (length columns) (target + 1)) (args ++ rest)) ordered in
     let place = placed variables columns known target kept.type now within kept.kept (leb-true target (length columns) both.0) in
     let past = order_past (is_assigned known) (max (length columns) (target + 1)) args rest (λ variable known. omega (arith, now.assigned variable known)) found.all both.1 in
     record {
@@ -338,8 +340,8 @@ unfolding FormedFrom
 read_next variables columns known after target name types args rest one here is =
     let read = given_by (is_read types) (option_map (λ file. step.Read target file (length types)) (name_of name)) one is in
     let named = mapped_from (λ file. step.Read target file (length types)) (name_of name) one read.1 in
-    let ints = both_true (nat_lt 0 (length types) && nat_le (length types) 16) (list_all (same_type Int) types) read.0 in
-    let many = both_true (nat_lt 0 (length types)) (nat_le (length types) 16) ints.0 in
+    let ints = and_parts (nat_lt 0 (length types) && nat_le (length types) 16) (list_all (same_type Int) types) read.0 in
+    let many = and_parts (nat_lt 0 (length types)) (nat_le (length types) 16) ints.0 in
     let same : length here.type.cols ≡ length types = ap length (read_cols name types [] here.judged.captures here.type here.judged.gives) in
     let legal = layer_named (out-Expr name) named.0 named.1 in
     let some : 1 ≤ length types = omega (arith, ltb-true 0 (length types) many.0) in
@@ -361,8 +363,8 @@ union_next variables columns known after target [] rest one now enough here is =
 union_next variables columns known after target (bag ∷ []) rest one now enough here is = absurd (omega arith)
 union_next variables columns known after target (bag ∷ other ∷ args) rest one now enough here is =
     let both = union_cols (type_of known bag) (type_of known other) here.type here.judged.captures here.judged.gives in
-    let first = both_true (is_assigned known bag) (list_all (is_assigned known) (other ∷ args)) here.judged.all in
-    let second = both_true (is_assigned known other) (list_all (is_assigned known) args) first.1 in
+    let first = and_parts (is_assigned known bag) (list_all (is_assigned known) (other ∷ args)) here.judged.all in
+    let second = and_parts (is_assigned known other) (list_all (is_assigned known) args) first.1 in
     let left = variable_columns variables known columns bag now first.0 ∙ ap (λ (cols : List ColType). Some (length cols)) both.0 in
     let right = variable_columns variables known columns other now second.0 ∙ ap Some both.1 in
     record {
@@ -402,7 +404,7 @@ written_next variables columns known after name (bag ∷ args) rest one now comp
     let found = judged_ok known (kind.Write name) (bag ∷ args) pass.0 pass.1 in
     let named = mapped_from (step.Write bag) (name_of name) one gives in
     let legal = layer_named (out-Expr name) named.0 named.1 in
-    let below = now.assigned bag (both_true (is_assigned known bag) (list_all (is_assigned known) args) found.all).0 in
+    let below = now.assigned bag (and_parts (is_assigned known bag) (list_all (is_assigned known) args) found.all).0 in
     record {
       later = columns;
       agrees = subst (λ (k : Known). Agrees variables k columns) pass.2 (agrees_passed variables known columns now);
@@ -418,9 +420,6 @@ write_next variables columns known after (kind.Write name) args rest one now com
 write_next variables columns known after operator args rest one now complete ordered is gives = absurd cc
 
 -- ---- a whole script
-
-abbrev heads_in : Stmt → List Head
-heads_in = fold-Stmt (List Head) head_step
 
 -- an assignment, by its head
 assign_next : (variables : ℕ) (columns : List ℕ) (known after : Known) (target : ℕ) (operator : OpSpec) (args rest : List ℕ) (one : ThinStep) (heads : List Head)
@@ -485,16 +484,6 @@ before_from None more steps is = absurd cc
 before_from (Some one) None steps is = absurd cc
 before_from (Some one) (Some later) steps is = (one, later, refl, refl, same_Some (one ∷ later) steps is)
 
--- what holds of a joined list holds of its first part
-all_left : {A : Type 0} (P : A → Type 0) (xs ys : List A) → All P (xs ++ ys) → All P xs
-all_left P [] ys all = All-nil P
-all_left P (x ∷ xs) ys all = All-cons P x xs (All-head P x (xs ++ ys) all) (all_left P xs ys (All-tail P x (xs ++ ys) all))
-
--- and of its second part
-all_right : {A : Type 0} (P : A → Type 0) (xs ys : List A) → All P (xs ++ ys) → All P ys
-all_right P [] ys all = all
-all_right P (x ∷ xs) ys all = all_right P xs ys (All-tail P x (xs ++ ys) all)
-
 -- the steps of statements that pass are formed
 body_formed : (variables : ℕ) (columns : List ℕ) (known last : Known) (body : List Stmt) (steps : List ThinStep) → Agrees variables known columns
     → All (IsFormedHead variables) (flat_map heads_in body) → is_in_order (length columns) (flat_map variables_of (flat_map heads_in body)) ≡ true
@@ -506,9 +495,9 @@ body_formed variables columns known last (first ∷ more) steps now all ordered 
     let pass = and_from (check_of first known) (in_order (map check_of more)) last is in
     let order = subst (λ (vs : List ℕ). is_in_order (length columns) vs ≡ true) (flat_map-append variables_of (heads_in first) (flat_map heads_in more)) ordered in
     let next = statement_next variables columns known pass.0 first (flat_map variables_of (flat_map heads_in more)) parts.0 now
-    (all_left (IsFormedHead variables) (heads_in first) (flat_map heads_in more) all) order pass.1 parts.2 in
+    (all_front (IsFormedHead variables) (heads_in first) (flat_map heads_in more) all) order pass.1 parts.2 in
     let later = body_formed variables next.later pass.0 last more parts.1 next.agrees
-    (all_right (IsFormedHead variables) (heads_in first) (flat_map heads_in more) all) next.ordered pass.2 parts.3 in
+    (all_back (IsFormedHead variables) (heads_in first) (flat_map heads_in more) all) next.ordered pass.2 parts.3 in
     subst (FormedFrom columns) parts.4 (next.formed parts.1 later)
 
 -- each statement has one step

@@ -5,11 +5,11 @@ use Rattle.std.proofs.lemmas.List.{drop_at, take_at}
 use Rattle.std.proofs.lemmas.List.Elements.{All-append, All-cons, All-drop, All-head, All-nil, All-tail, All-take, All-weaker}
 use Rattle.mit_ops.specs.Kinds.{bag_inputs_of}
 use Rattle.mit_ops.specs.declared.kinds.OpSpec.{OpSpec}
-use Rattle.mit_script.specs.Trees.{Head, IsFormed, IsFormedHead, assigns, decides, writes}
+use Rattle.mit_script.specs.Trees.{Head, IsFormed, IsFormedHead, assigns, decides, heads_in, writes}
 use Rattle.mit_script.specs.declared.tree.Script.{Script}
 use Rattle.mit_script.specs.declared.tree.Stmt.{Stmt}
 use Rattle.mit_script.specs.declared.tree.Stmt.TheVariants as stmt
-use Rattle.mit_check.proofs.Statements.{heads_in, heads_in-Assign, heads_in-If, heads_in-While, heads_in-Write}
+use Rattle.mit_check.proofs.Statements.{heads_in-Assign, heads_in-If, heads_in-While, heads_in-Write}
 use Rattle.mit_check.specs.Bags.{HasBags, HaveBags}
 
 -- what holds of joined lists holds of the first and of the second

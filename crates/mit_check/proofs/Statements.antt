@@ -4,9 +4,9 @@ use Rattle.std.specs.Prelude.{flat_map}
 use Rattle.std.proofs.lemmas.List.Folds.{flat_map-map}
 use Rattle.mit_ops.specs.declared.kinds.OpSpec.{OpSpec}
 use Rattle.mit_script.specs.Accepted.{Check, Known, and_then, branched, check_of, check_step, decided_by}
-use Rattle.mit_script.specs.Trees.{Head, assigns, count_of, count_of_all, count_step, decides, head_step, writes}
+use Rattle.mit_script.specs.Trees.{Head, assigns, count_of, count_of_all, count_step, decides, head_step, heads_in, writes}
 use Rattle.mit_script.specs.declared.tree.Stmt.{Stmt}
-use Rattle.mit_script.specs.declared.tree.Stmt.TheFolds.{fold-Stmt, fold-roll-Stmt}
+use Rattle.mit_script.specs.declared.tree.Stmt.TheFolds.{fold-roll-Stmt}
 use Rattle.mit_script.specs.declared.tree.Stmt.TheOpen as layer
 use Rattle.mit_script.specs.declared.tree.Stmt.TheVariants as stmt
 
@@ -18,9 +18,6 @@ check_of-If op args on_true on_false known =
     ∙ ap (λ (check : Check). check known) (fold-roll-Stmt Check check_step (layer.If op args on_true on_false))
 
 -- the heads of a statement and of those inside it
-abbrev pub heads_in : Stmt → List Head
-heads_in = fold-Stmt (List Head) head_step
-
 pub heads_in-Assign : (target : ℕ) (op : OpSpec) (args : List ℕ) → heads_in (stmt.Assign target op args) ≡ assigns target op args ∷ []
 heads_in-Assign target op args = ap heads_in (sym (stmt.rolls-Assign target op args)) ∙ fold-roll-Stmt (List Head) head_step (layer.Assign target op args)
 

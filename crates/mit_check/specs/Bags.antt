@@ -1,9 +1,8 @@
 -- Where the arguments of each operator are at least its bags.
-use Rattle.std.specs.Prelude.{◌≤◌, List, length, All}
+use Rattle.std.specs.Prelude.{◌≤◌, length, All}
 use Rattle.mit_ops.specs.Kinds.{bag_inputs_of}
-use Rattle.mit_script.specs.Trees.{Head, assigns, writes, decides, head_step}
+use Rattle.mit_script.specs.Trees.{Head, assigns, writes, decides, heads_in}
 use Rattle.mit_script.specs.declared.tree.Stmt.{Stmt}
-use Rattle.mit_script.specs.declared.tree.Stmt.TheFolds.{fold-Stmt}
 
 -- as many arguments as bags, or more
 abbrev pub HasBags : Head → Type 0
@@ -13,4 +12,4 @@ HasBags (decides operator args) = bag_inputs_of operator ≤ length args
 
 -- the same of a statement and of those inside it
 abbrev pub HaveBags : Stmt → Type 0
-HaveBags statement = All HasBags (fold-Stmt (List Head) head_step statement)
+HaveBags statement = All HasBags (heads_in statement)

@@ -1,33 +1,19 @@
 -- A text spells at most one script, or is refused at one place, and never both.
-use Rattle.std.proofs.Common.{◌≡◌, ◌∙◌, ℕ, List, [], ◌∷◌, ◌++◌, Result, Ok, Err, ap, sym, subst, refl, append_assoc}
-use Rattle.std.proofs.lemmas.List.{append-nil}
+use Rattle.std.proofs.Common.{◌≡◌, ◌∙◌, ℕ, List, [], ◌∷◌, ◌++◌, ap, sym, subst, refl, append_assoc}
+use Rattle.std.proofs.lemmas.List.{append-nil, map-append}
 use Rattle.mit_lex.specs.declared.token.Token.{Token}
 use Rattle.mit_script.specs.Grammar.{CanGoOn, IsSpelled, Kinds, Spells, kinds}
 use Rattle.mit_script.specs.declared.tree.Script.{Script}
 use Rattle.mit_parse.specs.Places.{IsRefusedAt, no_tokens, at_token, at_end}
 
--- a text has one list of tokens, or one place
-ok_same : {A B : Type 0} (one other : A) → ◌≡◌ {A = Result A B} (Ok one) (Ok other) → one ≡ other
-ok_same one other e = cc
-
-err_same : {A B : Type 0} (one other : B) → ◌≡◌ {A = Result A B} (Err one) (Err other) → one ≡ other
-err_same one other e = cc
-
-err_ok : {A B : Type 0} (one : B) (other : A) → ◌≡◌ {A = Result A B} (Err one) (Ok other) → ⊥
-err_ok one other e = cc
-
 -- where a spelled list begins with some tokens, it begins with the first of them
 front_goes_on : (front more : Kinds) → CanGoOn (front ++ more) → CanGoOn front
 front_goes_on front more on = (on.0, more ++ on.1, subst (λ (all : Kinds). Spells on.0 all) (append_assoc front more on.1) on.2)
 
-kinds-append : (tokens others : List Token) → kinds (tokens ++ others) ≡ kinds tokens ++ kinds others
-kinds-append [] others = refl
-kinds-append (token ∷ tokens) others = ap (λ rest. token.kind ∷ rest) (kinds-append tokens others)
-
 -- the tokens up to and with one of them
 cut_after : (front : List Token) (token : Token) (behind : List Token) → kinds (front ++ token ∷ behind) ≡ kinds (front ++ token ∷ []) ++ kinds behind
 cut_after front token behind =
-    ap kinds (sym (append_assoc front (token ∷ []) behind)) ∙ kinds-append (front ++ token ∷ []) behind
+    ap kinds (sym (append_assoc front (token ∷ []) behind)) ∙ map-append (λ (t : Token). t.kind) (front ++ token ∷ []) behind
 
 goes_on_with : (front : List Token) (token : Token) (behind : List Token) → CanGoOn (kinds (front ++ token ∷ behind)) → CanGoOn (kinds (front ++ token ∷ []))
 goes_on_with front token behind on =
@@ -70,18 +56,20 @@ same_stop front item other_front other (other_later more) on stop on' stop' = ab
 same_stop front item other_front other (other_earlier more) on stop on' stop' = absurd (stop' (goes_on_with other_front other more on))
 
 pub one_place : (text : List ℕ) (one other : ℕ) → IsRefusedAt text one → IsRefusedAt text other → one ≡ other
-one_place text one other (no_tokens a) (no_tokens b) = err_same one other (sym a ∙ b)
-one_place text one other (no_tokens a) (at_token front behind token b on stop) = absurd (err_ok one (front ++ token ∷ behind) (sym a ∙ b))
-one_place text one other (no_tokens a) (at_end tokens b on none) = absurd (err_ok one tokens (sym a ∙ b))
-one_place text one other (at_token front behind token a on stop) (no_tokens b) = absurd (err_ok other (front ++ token ∷ behind) (sym b ∙ a))
+one_place text one other (no_tokens a) (no_tokens b) = cc
+one_place text one other (no_tokens a) (at_token front behind token b on stop) = cc
+one_place text one other (no_tokens a) (at_end tokens b on none) = cc
+one_place text one other (at_token front behind token a on stop) (no_tokens b) = cc
 one_place text one other (at_token front behind token a on stop) (at_token front' behind' token' b on' stop') =
-    same_stop front token front' token' (cuts front token behind front' token' behind' (ok_same (front ++ token ∷ behind) (front' ++ token' ∷ behind') (sym a ∙ b)))
-    on stop on' stop'
+    let same : front ++ token ∷ behind ≡ front' ++ token' ∷ behind' = cc in
+    same_stop front token front' token' (cuts front token behind front' token' behind' same) on stop on' stop'
 one_place text one other (at_token front behind token a on stop) (at_end tokens b on' none) =
-    absurd (stop (goes_on_with front token behind (subst (λ (t : List Token). CanGoOn (kinds t)) (ok_same tokens (front ++ token ∷ behind) (sym b ∙ a)) on')))
-one_place text one other (at_end tokens a on none) (no_tokens b) = absurd (err_ok other tokens (sym b ∙ a))
+    let same : tokens ≡ front ++ token ∷ behind = cc in
+    absurd (stop (goes_on_with front token behind (subst (λ (t : List Token). CanGoOn (kinds t)) same on')))
+one_place text one other (at_end tokens a on none) (no_tokens b) = cc
 one_place text one other (at_end tokens a on none) (at_token front behind token b on' stop) =
-    absurd (stop (goes_on_with front token behind (subst (λ (t : List Token). CanGoOn (kinds t)) (ok_same tokens (front ++ token ∷ behind) (sym a ∙ b)) on)))
+    let same : tokens ≡ front ++ token ∷ behind = cc in
+    absurd (stop (goes_on_with front token behind (subst (λ (t : List Token). CanGoOn (kinds t)) same on)))
 one_place text one other (at_end tokens a on none) (at_end tokens' b on' none') = refl
 
 -- what is spelled can go on by nothing
@@ -89,16 +77,17 @@ spelled_goes_on : (script : Script) (tokens : List Token) → Spells script (kin
 spelled_goes_on script tokens spelled = (script, [], subst (λ (all : Kinds). Spells script all) (sym (append-nil (kinds tokens))) spelled)
 
 pub never_both : (text : List ℕ) (script : Script) (place : ℕ) → IsSpelled text script → IsRefusedAt text place → ⊥
-never_both text script place spelled (no_tokens a) = err_ok place spelled.tokens (sym a ∙ spelled.read)
+never_both text script place spelled (no_tokens a) = cc spelled.read
 never_both text script place spelled (at_token front behind token a on stop) =
-    stop (goes_on_with front token behind
-    (subst (λ (t : List Token). CanGoOn (kinds t)) (ok_same spelled.tokens (front ++ token ∷ behind) (sym spelled.read ∙ a)) (spelled_goes_on script spelled.tokens spelled.spelled)))
+    let same : spelled.tokens ≡ front ++ token ∷ behind = cc spelled.read in
+    stop (goes_on_with front token behind (subst (λ (t : List Token). CanGoOn (kinds t)) same (spelled_goes_on script spelled.tokens spelled.spelled)))
 never_both text script place spelled (at_end tokens a on none) =
-    none script (subst (λ (t : List Token). Spells script (kinds t)) (ok_same spelled.tokens tokens (sym spelled.read ∙ a)) spelled.spelled)
+    let same : spelled.tokens ≡ tokens = cc spelled.read in
+    none script (subst (λ (t : List Token). Spells script (kinds t)) same spelled.spelled)
 
 -- two scripts of one text, by the law of spelling
 pub one_script : ((tokens : Kinds) (one other : Script) → Spells one tokens → Spells other tokens → one ≡ other) → (text : List ℕ) (one other : Script)
     → IsSpelled text one → IsSpelled text other → one ≡ other
 one_script law text one other a b =
-    law (kinds a.tokens) one other a.spelled
-    (subst (λ (t : List Token). Spells other (kinds t)) (ok_same b.tokens a.tokens (sym b.read ∙ a.read)) b.spelled)
+    let same : b.tokens ≡ a.tokens = cc (a.read, b.read) in
+    law (kinds a.tokens) one other a.spelled (subst (λ (t : List Token). Spells other (kinds t)) same b.spelled)

@@ -1,5 +1,5 @@
 -- Operators and their ranks, and what is spelled at a rank.
-use Rattle.std.proofs.Common.{◌≡◌, ◌≢◌, ℕ, suc, ◌<◌, ◌∷◌, Bool, true, false, ◌==◌, if◌then◌else◌, Option, Some, None, refl, sym, ap, ◌∙◌, subst, arith, eqb-true}
+use Rattle.std.proofs.Common.{◌≡◌, ◌≢◌, ℕ, suc, ◌<◌, [], ◌∷◌, Bool, true, false, ◌==◌, if◌then◌else◌, Option, Some, None, refl, sym, ap, ◌∙◌, subst, arith, eqb-true}
 use Rattle.mit_expr.specs.declared.expr.BinOp.{BinOp}
 use Rattle.mit_expr.specs.declared.expr.BinOp.TheVariants as operator
 use Rattle.mit_expr.specs.declared.expr.Call.{Call}
@@ -11,7 +11,7 @@ use Rattle.mit_lex.specs.declared.keyword.TheConstants as word
 use Rattle.mit_script.specs.Grammar.{Kinds, operator_token, call_token}
 use Rattle.mit_script.specs.Reading.{behind, call_of_word, of_rank, operator_at, operator_of_symbol, operator_of_word, ranked_operator}
 use Rattle.mit_script.specs.Words.{rank_of}
-use Rattle.mit_script.proofs.Readers.{by_first, first_of, found_at}
+use Rattle.mit_script.proofs.Readers.{first_of, found_at, some_or_none}
 
 -- ---- tables
 
@@ -22,9 +22,6 @@ rank_below _ = omega arith
 pub rank_not_two : (op : BinOp) → rank_of op ≡ 2 → ⊥
 rank_not_two operator.Or is = omega arith
 rank_not_two _ is = omega arith
-
-none_found : {A : Type 0} (a : A) → ◌≡◌ {A = Option A} None (Some a) → ⊥
-none_found a is = cc
 
 pub operator_at-token : (op : BinOp) (rest : Kinds) → operator_at (operator_token op ∷ rest) ≡ Some op
 unfolding operator_at
@@ -37,7 +34,7 @@ symbol_found place op is =
     (entry symbol.DIVIDE operator.Div _ refl (entry symbol.REMAINDER operator.Rem _ refl (entry symbol.JOINED operator.Concat _ refl
     (entry symbol.SAME operator.Eq _ refl (entry symbol.DIFFERENT operator.Ne _ refl (entry symbol.BELOW operator.Lt _ refl
     (entry symbol.AT_MOST operator.Le _ refl (entry symbol.ABOVE operator.Gt _ refl (entry symbol.AT_LEAST operator.Ge _ refl
-    (λ none. absurd (none_found op none))))))))))))) is
+    (λ none. absurd (some_or_none op (sym none)))))))))))))) is
   where
     entry : (wanted : ℕ) (here : BinOp) (further : Option BinOp) → Symbol wanted ≡ operator_token here → (further ≡ Some op → Symbol place ≡ operator_token op)
         → (if place == wanted then Some here else further) ≡ Some op → Symbol place ≡ operator_token op
@@ -46,7 +43,7 @@ symbol_found place op is =
 
 word_found : (place : ℕ) (op : BinOp) → operator_of_word place ≡ Some op → Keyword place ≡ operator_token op
 word_found place op is =
-    entry word.AND operator.And _ refl (entry word.OR operator.Or _ refl (λ none. absurd (none_found op none))) is
+    entry word.AND operator.And _ refl (entry word.OR operator.Or _ refl (λ none. absurd (some_or_none op (sym none)))) is
   where
     entry : (wanted : ℕ) (here : BinOp) (further : Option BinOp) → Keyword wanted ≡ operator_token here → (further ≡ Some op → Keyword place ≡ operator_token op)
         → (if place == wanted then Some here else further) ≡ Some op → Keyword place ≡ operator_token op
@@ -56,7 +53,7 @@ word_found place op is =
 -- the token of a function
 pub call_found : (place : ℕ) (function : Call) → call_of_word place ≡ Some function → Keyword place ≡ call_token function
 call_found place function is =
-    entry word.TEXT call.ToText _ refl (entry word.INT call.ToInt _ refl (entry word.LEN call.Len _ refl (λ none. absurd (none_found function none)))) is
+    entry word.TEXT call.ToText _ refl (entry word.INT call.ToInt _ refl (entry word.LEN call.Len _ refl (λ none. absurd (some_or_none function (sym none))))) is
   where
     entry : (wanted : ℕ) (here : Call) (further : Option Call) → Keyword wanted ≡ call_token here → (further ≡ Some function → Keyword place ≡ call_token function)
         → (if place == wanted then Some here else further) ≡ Some function → Keyword place ≡ call_token function
@@ -68,16 +65,21 @@ pub operator_ahead : (op : BinOp) (tokens : Kinds) → operator_at tokens ≡ So
 unfolding operator_at
 operator_ahead op (Symbol place ∷ rest) is = ap (λ token. token ∷ rest) (symbol_found place op is)
 operator_ahead op (Keyword place ∷ rest) is = ap (λ token. token ∷ rest) (word_found place op is)
-operator_ahead op _ is = absurd (none_found op is)
+operator_ahead op _ is = absurd (some_or_none op (sym is))
 
-pub operator_at-first : (later rest : Kinds) → first_of later ≡ first_of rest → operator_at later ≡ operator_at rest
+-- the operator that this token is
+abbrev pub first_operator : Option TokenKind → Option BinOp
+first_operator (Some (Symbol place)) = operator_of_symbol place
+first_operator (Some (Keyword place)) = operator_of_word place
+first_operator _ = None
+
+-- the operator ahead depends on the first token
+pub operator_at-first : (tokens : Kinds) → operator_at tokens ≡ first_operator (first_of tokens)
 unfolding operator_at
-operator_at-first later rest same = by_first operator_at later rest alone same
-  where
-    alone : (token : TokenKind) (more others : Kinds) → operator_at (token ∷ more) ≡ operator_at (token ∷ others)
-    alone (Symbol place) more others = refl
-    alone (Keyword place) more others = refl
-    alone token more others = refl
+operator_at-first [] = refl
+operator_at-first (Symbol place ∷ rest) = refl
+operator_at-first (Keyword place ∷ rest) = refl
+operator_at-first (_ ∷ rest) = refl
 
 -- ---- operators of a rank
 
@@ -88,15 +90,15 @@ of_rank-some rank op is = ap (λ at. if at then Some op else None) (ap (λ r. ra
     same n = grind arith
 
 pub of_rank_found : (rank : ℕ) (found : Option BinOp) (op : BinOp) → of_rank rank found ≡ Some op → (found ≡ Some op) × (rank_of op ≡ rank)
-of_rank_found rank None op is = absurd (none_found op is)
+of_rank_found rank None op is = absurd (some_or_none op (sym is))
 of_rank_found rank (Some here) op is = go (rank_of here == rank) refl is
   where
     go : (fits : Bool) → (rank_of here == rank) ≡ fits → (if fits then Some here else None) ≡ Some op → (Some here ≡ Some op) × (rank_of op ≡ rank)
     go true so is = let same : here ≡ op = cc in (is, ap rank_of (sym same) ∙ eqb-true (rank_of here) rank so)
-    go false so is = absurd (none_found op is)
+    go false so is = absurd (some_or_none op (sym is))
 
 pub of_rank_none : (rank : ℕ) (op : BinOp) → of_rank rank (Some op) ≡ None → rank_of op ≡ rank → ⊥
-of_rank_none rank op none is = none_found op (sym none ∙ of_rank-some rank op is)
+of_rank_none rank op none is = some_or_none op (sym (of_rank-some rank op is) ∙ none)
 
 pub ranked_ahead : (rank : ℕ) (tokens : Kinds) (op : BinOp) → ranked_operator rank tokens ≡ Some op → (tokens ≡ operator_token op ∷ behind tokens) × (rank_of op ≡ rank)
 unfolding ranked_operator
@@ -108,7 +110,7 @@ ranked_operator-token rank op rest is = ap (of_rank rank) (operator_at-token op 
 
 pub ranked_operator-first : (rank : ℕ) (later rest : Kinds) → first_of later ≡ first_of rest → ranked_operator rank later ≡ ranked_operator rank rest
 unfolding ranked_operator
-ranked_operator-first rank later rest same = ap (of_rank rank) (operator_at-first later rest same)
+ranked_operator-first rank later rest same = ap (of_rank rank) (operator_at-first later ∙ ap first_operator same ∙ sym (operator_at-first rest))
 
 -- what may follow an expression of a rank: no operator that is as strong
 abbrev pub EndsRank : ℕ → Kinds → Type 0
@@ -146,7 +148,7 @@ ends_operator rank op rest below other is = subst (λ at. rank_of at < rank) (sa
 
 -- where no operator follows, an expression of any rank may end
 pub ends_none : (rank : ℕ) (rest : Kinds) → operator_at rest ≡ None → EndsRank rank rest
-ends_none rank rest none op is = absurd (none_found op (sym none ∙ is))
+ends_none rank rest none op is = absurd (some_or_none op (sym is ∙ none))
 
 pub none_ends : (rest : Kinds) → EndsRank 0 rest → operator_at rest ≡ None
 none_ends rest ends = go (operator_at rest) refl

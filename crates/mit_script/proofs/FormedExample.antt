@@ -11,8 +11,8 @@ use Rattle.mit_ops.specs.declared.kinds.OpSpec.TheVariants.{Scalar}
 use Rattle.mit_script.specs.declared.tree.Script.{Script}
 use Rattle.mit_script.specs.declared.tree.Stmt.{Stmt}
 use Rattle.mit_script.specs.declared.tree.Stmt.TheVariants.{If, While}
-use Rattle.mit_script.specs.Trees.{AreArgs, IsFormed, IsFormedHead, count_of, decides, use_step, uses_in}
-use Rattle.mit_script.proofs.Heads.{count_of-If, count_of-While, heads_in, heads_in-If, heads_in-While}
+use Rattle.mit_script.specs.Trees.{AreArgs, IsFormed, IsFormedHead, count_of, decides, use_step, uses_in, heads_in}
+use Rattle.mit_script.proofs.Heads.{count_of-If, count_of-While, heads_in-If, heads_in-While}
 
 abbrev truth : OpSpec
 truth = Scalar (Lit (Truth true))

@@ -6,9 +6,7 @@ use Rattle.mit_rows.specs.declared.value.ColType.{ColType}
 use Rattle.mit_rows.specs.declared.value.ColType.TheVariants as type
 use Rattle.mit_rows.specs.declared.value.Value.{Value}
 use Rattle.mit_expr.specs.declared.expr.BinOp.{BinOp}
-use Rattle.mit_expr.specs.declared.expr.BinOp.TheVariants as operator
 use Rattle.mit_expr.specs.declared.expr.Call.{Call}
-use Rattle.mit_expr.specs.declared.expr.Call.TheVariants as call
 use Rattle.mit_expr.specs.declared.expr.Expr.{Expr}
 use Rattle.mit_expr.specs.declared.expr.Expr.TheFolds.{fold-roll-Expr}
 use Rattle.mit_expr.specs.declared.expr.Expr.TheOpen as layer
@@ -18,9 +16,9 @@ use Rattle.mit_ops.specs.declared.kinds.Agg.{Agg}
 use Rattle.mit_ops.specs.declared.kinds.Agg.TheVariants as agg
 use Rattle.mit_ops.specs.declared.kinds.OpSpec.{OpSpec}
 use Rattle.mit_script.specs.Grammar
-use Rattle.mit_script.specs.Grammar.{Kinds, Listed, SpellsColumn, SpellsCondition, SpellsExpr, SpellsRight, SpellsType, SpellsWrite, agg_tokens, call_token, is_name, names_in, operator_token, truth_token}
+use Rattle.mit_script.specs.Grammar.{Kinds, Listed, SpellsColumn, SpellsCondition, SpellsExpr, SpellsRight, SpellsType, SpellsWrite, agg_tokens, is_name, names_in, operator_token, truth_token}
 use Rattle.mit_script.specs.Trees.{use_step, uses_in, uses_of}
-use Rattle.mit_script.proofs.NamesOnce.{names_in-append}
+use Rattle.mit_script.proofs.NamesOnce.{names_in-append, names_in-call, names_in-operator}
 use Rattle.mit_script.proofs.NamesOrder.{bound_of}
 use Rattle.std.proofs.lemmas.Bool.{false≢true}
 use Rattle.mit_script.proofs.NamesSingle.{is_name-Bin, is_name-Call, is_name-Column, is_name-Lit, is_name-Not}
@@ -74,30 +72,6 @@ counted-Call function {e} one = record {
   captures = ap captures_in (sym (expr.rolls-Call function e)) ∙ fold-roll-Expr ℕ capture_step (layer.Call function e) ∙ one.captures;
 }
 
--- tokens that name nothing
-operator_unnamed : (op : BinOp) (rest : Kinds) → names_in (operator_token op ∷ rest) ≡ names_in rest
-unfolding names_in
-operator_unnamed operator.Add rest = refl
-operator_unnamed operator.Sub rest = refl
-operator_unnamed operator.Mul rest = refl
-operator_unnamed operator.Div rest = refl
-operator_unnamed operator.Rem rest = refl
-operator_unnamed operator.Concat rest = refl
-operator_unnamed operator.Eq rest = refl
-operator_unnamed operator.Ne rest = refl
-operator_unnamed operator.Lt rest = refl
-operator_unnamed operator.Le rest = refl
-operator_unnamed operator.Gt rest = refl
-operator_unnamed operator.Ge rest = refl
-operator_unnamed operator.And rest = refl
-operator_unnamed operator.Or rest = refl
-
-call_unnamed : (function : Call) (rest : Kinds) → names_in (call_token function ∷ rest) ≡ names_in rest
-unfolding names_in
-call_unnamed call.ToText rest = refl
-call_unnamed call.ToInt rest = refl
-call_unnamed call.Len rest = refl
-
 truth_unnamed : (holds : Bool) → names_in (truth_token holds ∷ []) ≡ []
 unfolding names_in
 truth_unnamed true = refl
@@ -135,7 +109,7 @@ expr_counted : {number : List ℕ → ℕ} {rank : ℕ} {e : Expr} {tokens : Kin
 unfolding names_in
 expr_counted (Grammar.stronger e) = expr_counted e
 expr_counted {number} (Grammar.binary {tokens = tokens} {others = others} op left right) =
-    rw (names_in-append tokens (operator_token op ∷ others), operator_unnamed op others, map-append) (counted-Bin op (expr_counted left) (expr_counted right))
+    rw (names_in-append tokens (operator_token op ∷ others), names_in-operator op others, map-append) (counted-Bin op (expr_counted left) (expr_counted right))
 expr_counted (Grammar.negated e) = counted-Not (expr_counted e)
 expr_counted (Grammar.positive size fits) = counted-Lit _
 expr_counted (Grammar.negative size fits) = counted-Lit _
@@ -144,7 +118,7 @@ expr_counted (Grammar.truth_literal holds) = rw truth_unnamed (counted-Lit _)
 expr_counted (Grammar.column_place place) = counted-Column place
 expr_counted (Grammar.captured_name name) = counted-Capture _
 expr_counted (Grammar.called {tokens = tokens} function e) =
-    rw (call_unnamed, names_enclosed tokens _ refl) (counted-Call function (expr_counted e))
+    rw (names_in-call, names_enclosed tokens _ refl) (counted-Call function (expr_counted e))
 expr_counted (Grammar.enclosed {tokens = tokens} e) = rw (names_enclosed tokens _ refl) (expr_counted e)
 
 -- a single name names one

@@ -14,10 +14,10 @@ use Rattle.mit_lex.specs.declared.symbol.TheConstants as symbol
 use Rattle.mit_lex.specs.declared.keyword.TheConstants as word
 use Rattle.mit_script.specs.Grammar
 use Rattle.mit_script.specs.Grammar.{Kinds, SpellsBody, SpellsCondition, SpellsElse, SpellsOver, SpellsRight, SpellsStmt, SpellsWrite, arguments_in, captured_in, each_once, name_in, names_in, number_in}
-use Rattle.mit_script.specs.Trees.{AreArgs, Head, IsFormedHead, assigns, count_of, count_of_all, decides, is_scalar, is_write, variables_of, writes}
+use Rattle.mit_script.specs.Trees.{AreArgs, Head, IsFormedHead, assigns, count_of, count_of_all, decides, is_scalar, is_write, variables_of, writes, heads_in}
 use Rattle.mit_script.specs.declared.tree.Stmt.{Stmt}
 use Rattle.mit_script.proofs.FormedOps.{CountedOp, condition_counted, right_counted, write_counted}
-use Rattle.mit_script.proofs.Heads.{count_of-Assign, count_of-If, count_of-While, count_of-Write, heads_in, heads_in-Assign, heads_in-If, heads_in-While, heads_in-Write}
+use Rattle.mit_script.proofs.Heads.{count_of-Assign, count_of-If, count_of-While, count_of-Write, heads_in-Assign, heads_in-If, heads_in-While, heads_in-Write}
 use Rattle.mit_script.proofs.NamesOnce.{each_once_joined, each_once_twice, names_in-append}
 use Rattle.mit_script.proofs.NamesOrder.{bound_of, bound_of-names, names_in_order, number_in_below}
 

@@ -2,11 +2,16 @@
 use Rattle.std.proofs.Common.{◌≡◌, ◌≢◌, ℕ, List, [], ◌∷◌, ◌++◌, Bool, true, false, not, ◌&&◌, ◌||◌, refl, sym, ap, ◌∙◌, subst, append_assoc, arith, ⊎_elim}
 use Rattle.std.specs.Str.{bytes_eq}
 use Rattle.std.specs.List.{filter, list_any, AllPairs}
+use Rattle.std.proofs.Math.Bool.{and_comm}
 use Rattle.std.proofs.lemmas.Bool.{cases_Bool, false≢true}
 use Rattle.std.proofs.lemmas.List.Elements.{All-weaker, filter-append, filter_agree, filter_passes}
 use Rattle.std.proofs.lemmas.List.Kept.{AllPairs-cons, AllPairs-filter}
 use Rattle.std.proofs.lemmas.Slice.Eq.{bytes_eq-Decides}
-use Rattle.mit_script.specs.Grammar.{Kinds, each_once, names_in}
+use Rattle.mit_expr.specs.declared.expr.BinOp.{BinOp}
+use Rattle.mit_expr.specs.declared.expr.BinOp.TheVariants as operator
+use Rattle.mit_expr.specs.declared.expr.Call.{Call}
+use Rattle.mit_expr.specs.declared.expr.Call.TheVariants as call
+use Rattle.mit_script.specs.Grammar.{Kinds, call_token, each_once, names_in, operator_token}
 
 -- one of the names is this word
 abbrev pub is_among : List (List ℕ) → List ℕ → Bool
@@ -24,6 +29,30 @@ pub names_in-append : (tokens others : Kinds) → names_in (tokens ++ others) �
 unfolding names_in
 names_in-append [] others = refl
 names_in-append (token ∷ tokens) others = rw (names_in-append tokens others, append_assoc) refl
+
+-- no name is an operator or a function
+pub names_in-operator : (op : BinOp) (tokens : Kinds) → names_in (operator_token op ∷ tokens) ≡ names_in tokens
+unfolding names_in
+names_in-operator operator.Add tokens = refl
+names_in-operator operator.Sub tokens = refl
+names_in-operator operator.Mul tokens = refl
+names_in-operator operator.Div tokens = refl
+names_in-operator operator.Rem tokens = refl
+names_in-operator operator.Concat tokens = refl
+names_in-operator operator.Eq tokens = refl
+names_in-operator operator.Ne tokens = refl
+names_in-operator operator.Lt tokens = refl
+names_in-operator operator.Le tokens = refl
+names_in-operator operator.Gt tokens = refl
+names_in-operator operator.Ge tokens = refl
+names_in-operator operator.And tokens = refl
+names_in-operator operator.Or tokens = refl
+
+pub names_in-call : (function : Call) (tokens : Kinds) → names_in (call_token function ∷ tokens) ≡ names_in tokens
+unfolding names_in
+names_in-call call.ToText tokens = refl
+names_in-call call.ToInt tokens = refl
+names_in-call call.Len tokens = refl
 
 pub each_once-cons : (word : List ℕ) (words : List (List ℕ)) → each_once (word ∷ words) ≡ word ∷ filter (differs word) (each_once words)
 unfolding each_once
@@ -55,19 +84,13 @@ both_kept p word other fails = ⊎_elim
     (λ (apart : bytes_eq word other ≡ false). rw apart refl)
     (cases_Bool (bytes_eq word other))
 
-and_swap : (x y : Bool) → (x && y) ≡ (y && x)
-and_swap true true = refl
-and_swap true false = refl
-and_swap false true = refl
-and_swap false false = refl
-
 each_once-filter : (p : List ℕ → Bool) (words : List (List ℕ)) → each_once (filter p words) ≡ filter p (each_once words)
 unfolding each_once
 each_once-filter p [] = refl
 each_once-filter p (word ∷ words) = ⊎_elim
     (λ (passes : p word ≡ true). rw (passes, each_once-filter p words)
     (ap (λ rest. word ∷ rest) (filter_twice (differs word) p (each_once words)
-    ∙ filter_agree (λ x. p x && differs word x) (λ x. differs word x && p x) (λ x. and_swap (p x) (differs word x)) (each_once words)
+    ∙ filter_agree (λ x. p x && differs word x) (λ x. differs word x && p x) (λ x. and_comm (p x) (differs word x)) (each_once words)
     ∙ sym (filter_twice p (differs word) (each_once words)))))
     (λ (fails : p word ≡ false). rw (fails, each_once-filter p words)
     (sym (filter_twice p (differs word) (each_once words)
@@ -102,25 +125,29 @@ is_among-each_once (word ∷ words) other = ⊎_elim
     (λ (apart : bytes_eq word other ≡ false). rw apart (still_among word other (each_once words) apart ∙ is_among-each_once words other))
     (cases_Bool (bytes_eq word other))
 
-not-or : (x y : Bool) → (not x && not y) ≡ not (x || y)
+-- where nothing was seen, each word is new once
+pub fresh_of_all : (words : List (List ℕ)) → fresh [] words ≡ each_once words
+fresh_of_all words = kept (each_once words)
+  where
+    kept : (xs : List (List ℕ)) → filter (λ x. true) xs ≡ xs
+    kept [] = refl
+    kept (x ∷ xs) = ap (λ rest. x ∷ rest) (kept xs)
+
+pub not-or : (x y : Bool) → (not x && not y) ≡ not (x || y)
 not-or true y = refl
 not-or false y = refl
 
 -- each word of two lists once: those of the first, and what is new in the second
 pub each_once-append : (words others : List (List ℕ)) → each_once (words ++ others) ≡ each_once words ++ fresh words others
 unfolding each_once
-each_once-append [] others = sym (filter_all (each_once others))
-  where
-    filter_all : {X : Type 0} (xs : List X) → filter (λ x. true) xs ≡ xs
-    filter_all [] = refl
-    filter_all (x ∷ xs) = ap (λ rest. x ∷ rest) (filter_all xs)
+each_once-append [] others = sym (fresh_of_all others)
 each_once-append (word ∷ words) others = ap (λ rest. word ∷ rest)
     (ap (filter (differs word)) (each_once-append words others)
     ∙ filter-append (differs word) (each_once words) (fresh words others)
     ∙ ap (λ rest. filter (differs word) (each_once words) ++ rest)
     (filter_twice (differs word) (λ x. not (is_among words x)) (each_once others)
     ∙ filter_agree (λ x. not (is_among words x) && differs word x) (λ x. not (is_among (word ∷ words) x))
-    (λ x. and_swap (not (is_among words x)) (differs word x) ∙ not-or (bytes_eq word x) (is_among words x)) (each_once others)))
+    (λ x. and_comm (not (is_among words x)) (differs word x) ∙ not-or (bytes_eq word x) (is_among words x)) (each_once others)))
 
 -- lists with the same words in the same order of first appearance stay so when they are joined
 pub each_once_joined : (words words' others others' : List (List ℕ)) → each_once words ≡ each_once words' → each_once others ≡ each_once others'

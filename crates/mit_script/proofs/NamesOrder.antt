@@ -1,15 +1,15 @@
 -- The numbers of names: each new name has the next number.
-use Rattle.std.proofs.Common.{◌≡◌, ℕ, ◌+◌, ◌<◌, max, List, [], ◌∷◌, ◌++◌, length, map, Bool, true, false, not, ◌&&◌, ◌||◌, refl, sym, ap, ◌∙◌, append_assoc, subst, arith, ⊎_elim, ltb}
+use Rattle.std.proofs.Common.{◌≡◌, ℕ, ◌+◌, ◌<◌, max, List, [], ◌∷◌, ◌++◌, length, map, true, false, not, ◌&&◌, ◌||◌, refl, sym, ap, ◌∙◌, append_assoc, subst, arith, ⊎_elim, ltb}
 use Rattle.std.specs.Str.{bytes_eq}
-use Rattle.std.specs.List.{filter, position_or_len}
+use Rattle.std.specs.List.{position_or_len}
 use Rattle.std.proofs.lemmas.Bool.{cases_Bool, false≢true, le-leb, lt-ltb, ltb-true, true≢false}
-use Rattle.std.proofs.Math.Bool.{or-false}
+use Rattle.std.proofs.Math.Bool.{and_comm, or-false}
 use Rattle.std.proofs.lemmas.List.{append-nil, length-append}
 use Rattle.std.proofs.lemmas.List.Folds.{list_any-append}
 use Rattle.std.proofs.lemmas.List.Elements.{filter_agree}
 use Rattle.mit_script.specs.Grammar.{each_once, number_in}
 use Rattle.mit_script.specs.Trees.{is_in_order}
-use Rattle.mit_script.proofs.NamesOnce.{bytes_eq-same, bytes_eq-true, differs, each_once-cons, each_once-nil, filter_twice, fresh, is_among}
+use Rattle.mit_script.proofs.NamesOnce.{bytes_eq-same, bytes_eq-true, differs, each_once-cons, each_once-nil, filter_twice, fresh, fresh_of_all, is_among, not-or}
 
 -- the place of a word among names, or their number
 abbrev place : List (List ℕ) → List ℕ → ℕ
@@ -69,12 +69,6 @@ fresh-cons_seen seen words word among =
         (λ (apart : bytes_eq word x ≡ false). rw apart refl)
         (cases_Bool (bytes_eq word x))
 
-not-or : (x y : Bool) → (not y && not x) ≡ not (x || y)
-not-or true true = refl
-not-or true false = refl
-not-or false true = refl
-not-or false false = refl
-
 -- behind all words of a list stands one more
 is_among-push : (seen : List (List ℕ)) (word other : List ℕ) → is_among (seen ++ word ∷ []) other ≡ (is_among seen other || bytes_eq word other)
 is_among-push seen word other = list_any-append (λ name. bytes_eq name other) seen (word ∷ []) ∙ ap (λ b. is_among seen other || b) (or-false (bytes_eq word other))
@@ -85,7 +79,7 @@ fresh-cons_new seen words word new =
     rw (each_once-cons, new) (ap (λ rest. word ∷ rest) (
     filter_twice (λ x. not (is_among seen x)) (differs word) (each_once words)
     ∙ filter_agree (λ x. differs word x && not (is_among seen x)) (λ x. not (is_among (seen ++ word ∷ []) x))
-    (λ x. not-or (is_among seen x) (bytes_eq word x) ∙ ap not (sym (is_among-push seen word x))) (each_once words)))
+    (λ x. and_comm (differs word x) (not (is_among seen x)) ∙ not-or (is_among seen x) (bytes_eq word x) ∙ ap not (sym (is_among-push seen word x))) (each_once words)))
 
 -- one more than the greatest of the numbers, or 0
 abbrev pub bound_of : List ℕ → ℕ
@@ -130,14 +124,6 @@ ordered_from seen (word ∷ words) = ⊎_elim
     (subst (λ names. Ordered (length next) (length names) (map (number_in names) words)) (append_assoc seen (word ∷ []) (fresh next words))
     (ordered_from next words))))
     (cases_Bool (is_among seen word))
-
--- where nothing was seen, each word is new once
-fresh_of_all : (words : List (List ℕ)) → fresh [] words ≡ each_once words
-fresh_of_all words = kept (each_once words)
-  where
-    kept : (xs : List (List ℕ)) → filter (λ x. true) xs ≡ xs
-    kept [] = refl
-    kept (x ∷ xs) = ap (λ rest. x ∷ rest) (kept xs)
 
 -- words are numbered in the order in which they appear first, and all numbers are used
 ordered_names : (words : List (List ℕ)) → Ordered 0 (length (each_once words)) (map (number_in (each_once words)) words)

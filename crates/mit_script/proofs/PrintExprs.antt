@@ -20,7 +20,8 @@ use Rattle.mit_lex.specs.declared.symbol.TheConstants as symbol
 use Rattle.mit_script.specs.Grammar.{Kinds, SpellsExpr, names_in, stronger, binary, negated, positive, negative, text_literal, truth_literal, column_place, captured_name, called, enclosed}
 use Rattle.mit_script.specs.Words as words
 use Rattle.mit_script.specs.Words.{Tokens, left_rank, named, rank_of, ranked_tokens, expr_step, right_rank, literal_tokens}
-use Rattle.mit_script.proofs.PrintNames.{each_back, each_front, names_in-append, names_in-called, names_in-cons, names_in-enclosed, names_in-name, names_in-operator, names_in-signed}
+use Rattle.mit_script.proofs.NamesOnce.{names_in-append, names_in-operator}
+use Rattle.mit_script.proofs.PrintNames.{each_back, each_front, names_in-called, names_in-cons, names_in-enclosed, names_in-name, names_in-signed}
 use Rattle.mit_script.proofs.PrintWords.{Alike, Reprint, alike_append, alike_cons, alike_nil, call_written, each_append, operator_written, reprint, truth_written}
 
 -- ---- ranks

@@ -1,24 +1,16 @@
 -- The names among tokens.
-use Rattle.std.proofs.Common.{◌≡◌, ◌<◌, ◌+◌, ℕ, zero, suc, List, [], ◌∷◌, ◌++◌, drop, length, Bool, true, false, not, ltb, Some, slice_get, filter, refl, sym, ap, ◌∙◌, arith, append_assoc, inl, inr}
+use Rattle.std.proofs.Common.{◌≡◌, ◌<◌, ◌+◌, ℕ, zero, suc, List, [], ◌∷◌, ◌++◌, drop, length, Bool, true, ltb, Some, slice_get, refl, ap, ◌∙◌, arith, inl, inr}
 use Rattle.std.specs.List.{AllByRecursion as Each, list_any, position_or_len}
 use Rattle.std.specs.Str.{bytes_eq}
 use Rattle.std.proofs.lemmas.Bool.{cases_Bool}
 use Rattle.std.proofs.lemmas.Bool.Decides.{nat_tests}
-use Rattle.std.proofs.lemmas.Slice.Eq.{bytes_eq-Decides}
 use Rattle.std.proofs.lemmas.List.{append-nil}
-use Rattle.mit_expr.specs.declared.expr.BinOp.{BinOp}
-use Rattle.mit_expr.specs.declared.expr.BinOp.TheVariants as operator
 use Rattle.mit_expr.specs.declared.expr.Call.{Call}
-use Rattle.mit_expr.specs.declared.expr.Call.TheVariants as call
 use Rattle.mit_lex.specs.declared.token.TokenKind.{TokenKind}
 use Rattle.mit_lex.specs.declared.token.TokenKind.TheVariants.{Name, Number, Symbol}
 use Rattle.mit_lex.specs.declared.symbol.TheConstants as symbol
-use Rattle.mit_script.specs.Grammar.{Kinds, call_token, each_once, name_in, names_in, number_in, operator_token}
-
-pub names_in-append : (tokens others : Kinds) → names_in (tokens ++ others) ≡ names_in tokens ++ names_in others
-unfolding names_in
-names_in-append [] others = refl
-names_in-append (token ∷ tokens) others = rw (names_in-append tokens others) (sym (append_assoc (name_in token) (names_in tokens) (names_in others)))
+use Rattle.mit_script.proofs.NamesOnce.{bytes_eq-same, bytes_eq-true, is_among-each_once, names_in-append, names_in-call}
+use Rattle.mit_script.specs.Grammar.{Kinds, call_token, each_once, name_in, names_in, number_in}
 
 pub names_in-cons : (token : TokenKind) (tokens : Kinds) → names_in (token ∷ tokens) ≡ name_in token ++ names_in tokens
 unfolding names_in
@@ -31,30 +23,6 @@ names_in-name name = refl
 pub names_in-signed : (size : ℕ) → names_in (Number size ∷ []) ≡ names_in (Symbol symbol.MINUS ∷ Number size ∷ [])
 unfolding names_in
 names_in-signed size = refl
-
--- no name is an operator or a function
-pub names_in-operator : (op : BinOp) (tokens : Kinds) → names_in (operator_token op ∷ tokens) ≡ names_in tokens
-unfolding names_in
-names_in-operator operator.Add tokens = refl
-names_in-operator operator.Sub tokens = refl
-names_in-operator operator.Mul tokens = refl
-names_in-operator operator.Div tokens = refl
-names_in-operator operator.Rem tokens = refl
-names_in-operator operator.Concat tokens = refl
-names_in-operator operator.Eq tokens = refl
-names_in-operator operator.Ne tokens = refl
-names_in-operator operator.Lt tokens = refl
-names_in-operator operator.Le tokens = refl
-names_in-operator operator.Gt tokens = refl
-names_in-operator operator.Ge tokens = refl
-names_in-operator operator.And tokens = refl
-names_in-operator operator.Or tokens = refl
-
-names_in-call : (function : Call) (tokens : Kinds) → names_in (call_token function ∷ tokens) ≡ names_in tokens
-unfolding names_in
-names_in-call call.ToText tokens = refl
-names_in-call call.ToInt tokens = refl
-names_in-call call.Len tokens = refl
 
 -- a symbol behind tokens adds no name
 pub names_in-closed : (tokens : Kinds) (place : ℕ) → names_in (tokens ++ Symbol place ∷ []) ≡ names_in tokens
@@ -74,19 +42,13 @@ names_in-called function tokens = names_in-call function (Symbol symbol.LEFT_PAR
 abbrev pub has_name : List (List ℕ) → List ℕ → Bool
 has_name names name = list_any (λ other. bytes_eq other name) names
 
-same_bytes : (one other : List ℕ) → bytes_eq one other ≡ true → one ≡ other
-same_bytes one other same = (bytes_eq-Decides one other).0 same
-
-bytes_same : (bytes : List ℕ) → bytes_eq bytes bytes ≡ true
-bytes_same bytes = (bytes_eq-Decides bytes bytes).1 refl
-
 -- where it stands first
 place_found : (names : List (List ℕ)) (name : List ℕ) → has_name names name ≡ true
     → (position_or_len (λ other. bytes_eq other name) names < length names) × (slice_get names (position_or_len (λ other. bytes_eq other name) names) ≡ Some name)
 place_found [] name has = cc
 place_found (first ∷ names) name has =
     elim (cases_Bool (bytes_eq first name)) [
-      | inl here ↦ rw here (omega arith, ap Some (same_bytes first name here))
+      | inl here ↦ rw here (omega arith, ap Some (bytes_eq-true first name here))
       | inr not_here ↦
           let later = place_found names name (rw not_here at has) in
           let one : 1 + position_or_len (λ other. bytes_eq other name) names ≡ suc (position_or_len (λ other. bytes_eq other name) names) = omega arith in
@@ -98,34 +60,6 @@ number_found names name has =
     let found = place_found names name has in
     let inside : ltb (position_or_len (λ other. bytes_eq other name) names) (length names) ≡ true = let h = found.0 in grind (arith, nat_tests) in
     rw inside found.1
-
--- ---- each name once
-
-kept_name : (names : List (List ℕ)) (first name : List ℕ) → bytes_eq first name ≡ false → has_name names name ≡ true
-    → has_name (filter (λ other. not (bytes_eq first other)) names) name ≡ true
-kept_name [] first name differs has = has
-kept_name (next ∷ names) first name differs has =
-    elim (cases_Bool (bytes_eq next name)) [
-      | inl here ↦
-          let same : next ≡ name = same_bytes next name here in
-          let kept : bytes_eq first next ≡ false = rw same differs in
-          rw (kept, here) refl
-      | inr not_here ↦
-          let later = kept_name names first name differs (rw not_here at has) in
-          elim (cases_Bool (bytes_eq first next)) [
-            | inl dropped ↦ rw dropped later
-            | inr kept ↦ rw (kept, not_here) later
-          ]
-    ]
-
-each_once_has : (words : List (List ℕ)) (name : List ℕ) → has_name words name ≡ true → has_name (each_once words) name ≡ true
-unfolding each_once
-each_once_has [] name has = has
-each_once_has (first ∷ words) name has =
-    elim (cases_Bool (bytes_eq first name)) [
-      | inl here ↦ rw here refl
-      | inr not_here ↦ rw not_here (kept_name (each_once words) first name not_here (each_once_has words name (rw not_here at has)))
-    ]
 
 -- ---- what holds of each
 
@@ -156,7 +90,7 @@ has_later first names name has = elim (cases_Bool (bytes_eq first name)) [ inl h
 all_had : (words : List (List ℕ)) → Each (λ name. has_name words name ≡ true) words
 all_had [] = tt
 all_had (first ∷ words) =
-    (rw (bytes_same first) refl, each_weaker (λ name. has_name words name ≡ true) (λ name. has_name (first ∷ words) name ≡ true) (has_later first words) words (all_had words))
+    (rw (bytes_eq-same first) refl, each_weaker (λ name. has_name words name ≡ true) (λ name. has_name (first ∷ words) name ≡ true) (has_later first words) words (all_had words))
 
 -- the name is found again by its number among these
 abbrev pub IsFound : List (List ℕ) → List ℕ → Type 0
@@ -165,4 +99,4 @@ IsFound names name = slice_get names (number_in names name) ≡ Some name
 pub once_found : (words : List (List ℕ)) → Each (IsFound (each_once words)) words
 once_found words =
     each_weaker (λ name. has_name words name ≡ true) (IsFound (each_once words))
-    (λ name has. number_found (each_once words) name (each_once_has words name has)) words (all_had words)
+    (λ name has. number_found (each_once words) name (is_among-each_once words name ∙ has)) words (all_had words)

@@ -21,7 +21,8 @@ use Rattle.mit_script.specs.Grammar.{Kinds, Listed, single, and_more, SpellsExpr
 use Rattle.mit_script.specs.Words as words
 use Rattle.mit_script.specs.Words.{Tokens, column_tokens, columns_tokens, comma, expr_tokens, named, op_tokens, type_tokens}
 use Rattle.mit_script.proofs.NamesSingle.{is_name-Bin, is_name-Call, is_name-Capture, is_name-Column, is_name-Lit, is_name-Not}
-use Rattle.mit_script.proofs.PrintNames.{IsFound, each_back, each_both, each_front, each_drop, names_in-append, names_in-cons, names_in-enclosed, names_in-name, once_found}
+use Rattle.mit_script.proofs.NamesOnce.{names_in-append}
+use Rattle.mit_script.proofs.PrintNames.{IsFound, each_back, each_both, each_front, each_drop, names_in-cons, names_in-enclosed, names_in-name, once_found}
 use Rattle.mit_script.proofs.PrintExprs.{FindsName, expr_reprint, weaken}
 use Rattle.mit_script.proofs.PrintWords.{Alike, Reprint, alike_append, alike_cons, alike_nil, reprint, type_written}
 

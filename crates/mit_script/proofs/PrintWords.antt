@@ -14,7 +14,8 @@ use Rattle.mit_lex.specs.Written.{written}
 use Rattle.mit_lex.specs.declared.token.TokenKind.{TokenKind}
 use Rattle.mit_script.specs.Grammar.{Kinds, call_token, names_in, operator_token, truth_token, type_token}
 use Rattle.mit_script.specs.Words.{Tokens, call_word, symbol_of, truth_word, type_word}
-use Rattle.mit_script.proofs.PrintNames.{each_back, each_front, names_in-append, names_in-cons}
+use Rattle.mit_script.proofs.NamesOnce.{names_in-append}
+use Rattle.mit_script.proofs.PrintNames.{each_back, each_front, names_in-cons}
 
 -- ---- words
 

@@ -10,6 +10,24 @@ abbrev pub first_of : Kinds → Option TokenKind
 first_of [] = None
 first_of (token ∷ rest) = Some token
 
+-- ---- results and options
+
+-- results that are the same hold the same, and are both successes or both failures
+pub ok_once : {A E : Type 0} (a b : A) → Path (Result A E) (Ok a) (Ok b) → a ≡ b
+ok_once a b is = cc
+
+pub err_once : {A E : Type 0} (a b : E) → Path (Result A E) (Err a) (Err b) → a ≡ b
+err_once a b is = cc
+
+pub ok_or_err : {A E : Type 0} (a : A) (e : E) → Path (Result A E) (Ok a) (Err e) → ⊥
+ok_or_err a e is = cc
+
+-- an option that holds something is not empty
+pub some_or_none : {A : Type 0} (a : A) → Path (Option A) (Some a) None → ⊥
+some_or_none a is = cc
+
+-- ---- what is read
+
 -- anything may follow
 abbrev pub Whatever : Kinds → Type 0
 Whatever rest = Unit {0}
@@ -24,7 +42,8 @@ pub data Reads {A X : Type 0} (Spelled : A → Kinds → Type 0) (Ends : Kinds �
       → ((x : X) (later : Kinds) → first_of later ≡ first_of rest → others x (front ++ later) ≡ Err later)
       → Reads Spelled Ends others (front ++ rest) (Err rest)
 
-first_of-append : (used later rest : Kinds) → first_of later ≡ first_of rest → first_of (used ++ later) ≡ first_of (used ++ rest)
+-- what comes first depends on what comes first of the rest
+pub first_of-append : (used later rest : Kinds) → first_of later ≡ first_of rest → first_of (used ++ later) ≡ first_of (used ++ rest)
 first_of-append [] later rest same = same
 first_of-append (token ∷ used) later rest same = refl
 
@@ -112,10 +131,7 @@ module _ {A B X : Type 0} (First : A → Kinds → Type 0) (firsts : X → Kinds
 
 -- what comes first is a token, and the rest comes behind it
 token_first : (token : TokenKind) (later : Kinds) → first_of later ≡ Some token → (more : Kinds) × (later ≡ token ∷ more)
-token_first token [] is = absurd (never is)
-  where
-    never : ◌≡◌ {A = Option TokenKind} None (Some token) → ⊥
-    never is = cc
+token_first token [] is = absurd (some_or_none token (sym is))
 token_first token (first ∷ more) is = (more, cc)
 
 none_first : (later : Kinds) → first_of later ≡ None → later ≡ []
@@ -166,18 +182,20 @@ found_at false here item further Found at later is = later is
 
 -- ---- what depends on the first token alone
 
-pub by_first : {B : Type 0} (f : Kinds → B) (later rest : Kinds) → ((token : TokenKind) (more others : Kinds) → f (token ∷ more) ≡ f (token ∷ others))
-    → first_of later ≡ first_of rest → f later ≡ f rest
-by_first f later [] alone same = ap f (none_first later same)
-by_first f later (token ∷ rest) alone same = let at = token_first token later same in ap f at.1 ∙ alone token at.0 rest
+-- whether the first token is this keyword
+abbrev pub first_is_word : ℕ → Option TokenKind → Bool
+first_is_word wanted (Some (Keyword place)) = place == wanted
+first_is_word wanted _ = false
 
-pub sees_word-first : (wanted : ℕ) (later rest : Kinds) → first_of later ≡ first_of rest → sees_word wanted later ≡ sees_word wanted rest
+-- the keyword ahead depends on the first token
+pub sees_word-first : (wanted : ℕ) (tokens : Kinds) → sees_word wanted tokens ≡ first_is_word wanted (first_of tokens)
 unfolding sees_word
-sees_word-first wanted later rest same = by_first (sees_word wanted) later rest alone same
-  where
-    alone : (token : TokenKind) (more others : Kinds) → sees_word wanted (token ∷ more) ≡ sees_word wanted (token ∷ others)
-    alone (Keyword place) more others = refl
-    alone token more others = refl
+sees_word-first wanted [] = refl
+sees_word-first wanted (Keyword place ∷ rest) = refl
+sees_word-first wanted (_ ∷ rest) = refl
+
+pub word_local : (wanted : ℕ) (later rest : Kinds) → first_of later ≡ first_of rest → sees_word wanted later ≡ sees_word wanted rest
+word_local wanted later rest same = sees_word-first wanted later ∙ ap (first_is_word wanted) same ∙ sym (sees_word-first wanted rest)
 
 pub word_seen : (wanted : ℕ) (tokens : Kinds) → sees_word wanted tokens ≡ true → tokens ≡ Keyword wanted ∷ behind tokens
 unfolding sees_word
@@ -204,28 +222,18 @@ pub reads_ok : {A X : Type 0} {Spelled : A → Kinds → Type 0} {Ends : Kinds �
     → (item : A) (rest : Kinds) → Reads Spelled Ends others tokens result → result ≡ Ok (item, rest)
     → (used : Kinds) × (tokens ≡ used ++ rest) × Spelled item used × Ends rest
 reads_ok {Spelled = Spelled} {Ends = Ends} item rest (takes read used left spelled ends local) is =
-    (used, ap (λ p. used ++ p.1) (same is), subst (λ p. Spelled p.0 used) (same is) spelled, subst (λ p. Ends p.1) (same is) ends)
-  where
-    same : {P Q : Type 0} {p q : P} → ◌≡◌ {A = Result P Q} (Ok p) (Ok q) → p ≡ q
-    same is = cc
-reads_ok {A} item rest (stops read front left more spelled local) is = absurd (never is)
-  where
-    never : ◌≡◌ {A = Reading A} (Err left) (Ok (item, rest)) → ⊥
-    never is = cc
+    let same = ok_once (read, left) (item, rest) is in
+    (used, ap (λ p. used ++ p.1) same, subst (λ p. Spelled p.0 used) same spelled, subst (λ p. Ends p.1) same ends)
+reads_ok item rest (stops read front left more spelled local) is = absurd (ok_or_err (item, rest) left (sym is))
 
 pub reads_err : {A X : Type 0} {Spelled : A → Kinds → Type 0} {Ends : Kinds → Type 0} {others : X → Kinds → Reading A} {tokens : Kinds} {result : Reading A}
     → (rest : Kinds) → Reads Spelled Ends others tokens result → result ≡ Err rest
     → (front : Kinds) × (item : A) × (more : Kinds) × (tokens ≡ front ++ rest) × Spelled item (front ++ more)
     × ((x : X) (later : Kinds) → first_of later ≡ first_of rest → others x (front ++ later) ≡ Err later)
-reads_err {A} rest (takes read used left spelled ends local) is = absurd (never is)
-  where
-    never : ◌≡◌ {A = Reading A} (Ok (read, left)) (Err rest) → ⊥
-    never is = cc
-reads_err {A} rest (stops item front left more spelled local) is =
-    (front, item, more, ap (λ p. front ++ p) (same is), spelled, λ x later first. local x later (first ∙ ap first_of (sym (same is))))
-  where
-    same : ◌≡◌ {A = Reading A} (Err left) (Err rest) → left ≡ rest
-    same is = cc
+reads_err rest (takes read used left spelled ends local) is = absurd (ok_or_err (read, left) rest is)
+reads_err rest (stops item front left more spelled local) is =
+    let same = err_once left rest is in
+    (front, item, more, ap (λ p. front ++ p) same, spelled, λ x later first. local x later (first ∙ ap first_of (sym same)))
 
 -- ---- bounds
 

@@ -13,8 +13,8 @@ use Rattle.mit_lex.specs.declared.keyword.TheConstants as word
 use Rattle.mit_script.specs.Grammar.{Kinds, agg_tokens, SpellsWrite, write_form, SpellsCondition, condition_form}
 use Rattle.mit_script.specs.Reading.{Reading, ◌>>=◌, expect_word, sees_word, behind, column_at, of_column, agg_at, read_at, map_at, filter_at, words_at, range_at, flat_by, flat_at, join_at, reduce_at, union_at, of_bag_at, sum_at, row_at, empty_at, copy_or_scalar, scalar_at, write_at, condition_at}
 use Rattle.mit_script.proofs.Readers.{first_of}
-use Rattle.mit_script.proofs.StmtReaders.{Spelling, Reader, IsReader, One, one, Bind, both, Made, made, make, along, convert, Pure, pure, reads_none, Or, this, other}
-use Rattle.mit_script.proofs.StmtTokens.{Whatever, SymbolOf, WordOf, reads_name, reads_column, reads_text, AfterWord, AfterSymbol, after_word, after_symbol, choose_word, EndsList}
+use Rattle.mit_script.proofs.StmtReaders.{Spelling, Reader, IsReader, One, one, Bind, both, Made, made, make, along, convert, Pure, pure, reads_pure, Or, this, other}
+use Rattle.mit_script.proofs.StmtTokens.{Whatever, SymbolOf, WordOf, reads_one_name, reads_one_column, reads_one_text, AfterWord, AfterSymbol, after_word, after_symbol, choose_word, EndsList}
 use Rattle.mit_script.proofs.RightReaders.{Numbers, EndsExpr, begins_one, begins_both, begins_made, follow, then_any, ends_so, AnExpr, reads_expr, Exprs, reads_exprs, Types, reads_types, Columns, reads_columns}
 
 -- a keyword and what is behind it, or the token is refused
@@ -96,10 +96,10 @@ AnAgg p by tokens = tokens ≡ agg_tokens by
 reads_agg : {P : Type 0} {top slack : ℕ} → IsReader {P = P} top slack AnAgg Whatever (λ p left most. agg_at)
 unfolding agg_by_words
 reads_agg {slack = slack} = convert
-    (choose_word slack word.COUNT (omega arith) (reads_none Whatever (λ p. agg.Count))
-    (choose_word slack word.SUM (omega arith) (make reads_column (λ p column. agg.Sum column))
-    (choose_word slack word.MIN (omega arith) (make reads_column (λ p column. agg.Min column))
-    (last_word word.MAX (make reads_column (λ p column. agg.Max column)))
+    (choose_word slack word.COUNT (omega arith) (reads_pure Whatever (λ p. agg.Count))
+    (choose_word slack word.SUM (omega arith) (make reads_one_column (λ p column. agg.Sum column))
+    (choose_word slack word.MIN (omega arith) (make reads_one_column (λ p column. agg.Min column))
+    (last_word word.MAX (make reads_one_column (λ p column. agg.Max column)))
     (λ p a tokens after x e. word_unseen word.MAX word.MIN (AColumn agg.Max) refl p a tokens after x))
     (λ p a tokens after x e. or_unseen word.SUM (AfterWord word.MIN (AColumn agg.Min)) Maxed (word_unseen word.MIN word.SUM (AColumn agg.Min) refl) (word_unseen word.MAX word.SUM (AColumn agg.Max) refl) p a tokens after x))
     (λ p a tokens after x e. or_unseen word.COUNT (AfterWord word.SUM (AColumn agg.Sum)) MinMaxed (word_unseen word.SUM word.COUNT (AColumn agg.Sum) refl)
@@ -121,21 +121,21 @@ MapForm = Bind (One Name) (Made (λ q. Exprs q.0) (λ q exprs. kind.Map exprs))
 
 pub reads_map : {top slack : ℕ} → IsReader top slack MapForm Whatever (λ number left most. map_at number most)
 unfolding map_at
-reads_map = then_any reads_name (make (along (λ q. q.0) reads_exprs) (λ q exprs. kind.Map exprs))
+reads_map = then_any reads_one_name (make (along (λ q. q.0) reads_exprs) (λ q exprs. kind.Map exprs))
 
 abbrev pub FilterForm : Spelling Numbers OpSpec
 FilterForm = Bind (One Name) (AfterWord word.WHERE (Made (λ q. AnExpr q.0) (λ q e. kind.Filter e)))
 
 pub reads_filter : {top slack : ℕ} → IsReader top slack FilterForm EndsExpr (λ number left most. filter_at number most)
 unfolding filter_at
-reads_filter {slack = slack} = then_any reads_name (after_word slack word.WHERE (omega arith) (make (along (λ q. q.0) reads_expr) (λ q e. kind.Filter e)))
+reads_filter {slack = slack} = then_any reads_one_name (after_word slack word.WHERE (omega arith) (make (along (λ q. q.0) reads_expr) (λ q e. kind.Filter e)))
 
 abbrev WordsForm : Spelling Numbers OpSpec
 WordsForm = Bind AnExpr (AfterSymbol symbol.COMMA (Made (One Text) (λ q separator. kind.FlatMap (flat.Words q.1 separator))))
 
 reads_words : {top slack : ℕ} → IsReader top slack WordsForm Whatever (λ number left most. words_at number most)
 unfolding words_at
-reads_words {slack = slack} = follow reads_expr (after_symbol slack symbol.COMMA (omega arith) (make reads_text (λ q separator. kind.FlatMap (flat.Words q.1 separator))))
+reads_words {slack = slack} = follow reads_expr (after_symbol slack symbol.COMMA (omega arith) (make reads_one_text (λ q separator. kind.FlatMap (flat.Words q.1 separator))))
     (begins_both (SymbolOf symbol.COMMA) _ EndsExpr (begins_one (λ u. Symbol symbol.COMMA) EndsExpr (λ u. refl)))
 
 abbrev RangeForm : Spelling Numbers OpSpec
@@ -159,7 +159,7 @@ FlatForm = Bind (One Name) (λ q. FlatRest q.0)
 
 pub reads_flat : {top slack : ℕ} → IsReader top slack FlatForm EndsExpr (λ number left most. flat_at number most)
 unfolding flat_at
-reads_flat = convert (then_any reads_name (along (λ q. q.0) reads_flat_by)) (λ p a tokens x. x) (λ p a tokens x. x) (λ next e. e) (λ number left most tokens. refl)
+reads_flat = convert (then_any reads_one_name (along (λ q. q.0) reads_flat_by)) (λ p a tokens x. x) (λ p a tokens x. x) (λ next e. e) (λ number left most tokens. refl)
 
 abbrev pub JoinForm : Spelling Numbers OpSpec
 JoinForm = Bind (One Name) (Bind Columns (AfterWord word.WITH (Bind (One Name) (Made Columns (λ q right. kind.Join q.0.1 right)))))
@@ -167,8 +167,8 @@ JoinForm = Bind (One Name) (Bind Columns (AfterWord word.WITH (Bind (One Name) (
 pub reads_join : {top slack : ℕ} → IsReader top slack JoinForm (EndsList Whatever) (λ number left most. join_at most)
 unfolding join_at
 reads_join {slack = slack} =
-    then_any reads_name
-    (follow reads_columns (after_word slack word.WITH (omega arith) (then_any reads_name (make reads_columns (λ q right. kind.Join q.0.1 right))))
+    then_any reads_one_name
+    (follow reads_columns (after_word slack word.WITH (omega arith) (then_any reads_one_name (make reads_columns (λ q right. kind.Join q.0.1 right))))
     (begins_both (WordOf word.WITH) _ (EndsList Whatever) (begins_one (λ u. Keyword word.WITH) (EndsList Whatever) (λ u. (tt, refl)))))
 
 -- none of the four begins with a comma
@@ -184,7 +184,7 @@ ReduceForm = Bind (One Name) (AfterWord word.BY (Bind Columns (Made AnAgg (λ q 
 pub reads_reduce : {top slack : ℕ} → IsReader top slack ReduceForm Whatever (λ number left most. reduce_at most)
 unfolding reduce_at
 reads_reduce {slack = slack} =
-    then_any reads_name (after_word slack word.BY (omega arith)
+    then_any reads_one_name (after_word slack word.BY (omega arith)
     (follow reads_columns (make reads_agg (λ q by. kind.Reduce q.1 by)) (begins_made AnAgg (λ q by. kind.Reduce q.1 by) (EndsList Whatever) agg_begins)))
 
 abbrev pub UnionForm : Spelling Numbers OpSpec
@@ -192,21 +192,21 @@ UnionForm = Bind (One Name) (AfterSymbol symbol.COMMA (Made (One Name) (λ q nam
 
 pub reads_union : {top slack : ℕ} → IsReader top slack UnionForm Whatever (λ number left most. union_at)
 unfolding union_at
-reads_union {slack = slack} = then_any reads_name (after_symbol slack symbol.COMMA (omega arith) (make reads_name (λ q name. kind.Union)))
+reads_union {slack = slack} = then_any reads_one_name (after_symbol slack symbol.COMMA (omega arith) (make reads_one_name (λ q name. kind.Union)))
 
 abbrev pub BagForm : OpSpec → Spelling Numbers OpSpec
 BagForm op = Made (One Name) (λ number bag. op)
 
 pub reads_bag : {top slack : ℕ} (op : OpSpec) → IsReader top slack (BagForm op) Whatever (λ number left most. of_bag_at op)
 unfolding of_bag_at
-reads_bag op = make reads_name (λ number bag. op)
+reads_bag op = make reads_one_name (λ number bag. op)
 
 abbrev pub SumForm : Spelling Numbers OpSpec
 SumForm = Bind (One Name) (Made (One Column) (λ q column. kind.Sum column))
 
 pub reads_sum : {top slack : ℕ} → IsReader top slack SumForm Whatever (λ number left most. sum_at)
 unfolding sum_at
-reads_sum = then_any reads_name (make reads_column (λ q column. kind.Sum column))
+reads_sum = then_any reads_one_name (make reads_one_column (λ q column. kind.Sum column))
 
 abbrev pub RowForm : Spelling Numbers OpSpec
 RowForm = Made Exprs (λ number exprs. kind.MakeRow exprs)
@@ -244,7 +244,7 @@ write_is number op tokens (write_form bag x) = both one (both one (both one (mad
 pub reads_write : {top slack : ℕ} → IsReader top slack SpellsWrite EndsExpr (λ number left most. write_at number most)
 unfolding write_at
 reads_write {slack = slack} = convert
-    (after_word slack word.WRITE (omega arith) (then_any reads_name (after_word slack word.TO (omega arith) (make (along (λ q. q.0) reads_expr) (λ q name. kind.Write name)))))
+    (after_word slack word.WRITE (omega arith) (then_any reads_one_name (after_word slack word.TO (omega arith) (make (along (λ q. q.0) reads_expr) (λ q name. kind.Write name)))))
     is_write write_is (λ next e. e) (λ number left most tokens. refl)
 
 is_condition : (number : Numbers) (op : OpSpec) (tokens : Kinds) → Made AnExpr (λ number e. kind.Scalar e) number op tokens → SpellsCondition number op tokens

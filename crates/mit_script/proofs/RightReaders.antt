@@ -1,38 +1,24 @@
 -- The readers of operators: the forms of the right side, of `write` and of a condition.
-use Rattle.std.proofs.Common.{◌≡◌, ℕ, List, [], ◌∷◌, ◌++◌, Option, Some, None, Ok, Err, refl, ap, sym, subst, ◌∙◌, arith, append_assoc}
+use Rattle.std.proofs.Common.{◌≡◌, ℕ, List, ◌++◌, Option, Some, None, Ok, Err, refl, ap, sym, subst, ◌∙◌, arith, append_assoc}
 use Rattle.mit_rows.specs.declared.value.ColType.{ColType}
-use Rattle.mit_expr.specs.declared.expr.BinOp.{BinOp}
 use Rattle.mit_expr.specs.declared.expr.Expr.{Expr}
 use Rattle.mit_lex.specs.declared.token.TokenKind.{TokenKind}
-use Rattle.mit_lex.specs.declared.token.TokenKind.TheVariants.{Symbol, Keyword}
+use Rattle.mit_lex.specs.declared.token.TokenKind.TheVariants.{Symbol}
 use Rattle.mit_lex.specs.declared.symbol.TheConstants as symbol
 use Rattle.mit_script.specs.Grammar.{Kinds, Listed, SpellsType, SpellsColumn, SpellsExpr, stronger, positive}
-use Rattle.mit_script.specs.Reading.{column_at, type_at, operator_at, operator_of_symbol, operator_of_word, any_expression, exprs_at, types_at, columns_at}
+use Rattle.mit_script.specs.Reading.{column_at, type_at, operator_at, any_expression, exprs_at, types_at, columns_at}
 use Rattle.mit_script.proofs.Readers.{first_of}
+use Rattle.mit_script.proofs.ExprFacts.{first_operator, operator_at-first}
 use Rattle.mit_script.proofs.ExprReading.{expression_complete, expression_sound, expression_stuck}
 use Rattle.mit_script.proofs.Renamed.{expr_renamed}
 use Rattle.mit_script.proofs.StmtReaders.{Spelling, Reader, IsReader, Read, Stuck, Fits, fits_front, One, one, Bind, both, bound, bind, Made, made, make, convert}
-use Rattle.mit_script.proofs.StmtTokens.{Whatever, SymbolOf, reads_symbol, reads_the_column, reads_the_type, AfterSymbol, after_symbol, EndsList, reads_list}
+use Rattle.mit_script.proofs.StmtTokens.{Whatever, SymbolOf, reads_one_symbol, reads_the_column, reads_the_type, AfterSymbol, after_symbol, EndsList, reads_list}
 
 -- the numbers of names
 abbrev pub Numbers : Type 0
 Numbers = List ℕ → ℕ
 
 -- ---- what may follow
-
--- the operator that this token is
-abbrev pub first_operator : Option TokenKind → Option BinOp
-first_operator (Some (Symbol place)) = operator_of_symbol place
-first_operator (Some (Keyword place)) = operator_of_word place
-first_operator _ = None
-
--- the operator ahead depends on the first token
-operator_at-first : (tokens : Kinds) → operator_at tokens ≡ first_operator (first_of tokens)
-unfolding operator_at
-operator_at-first [] = refl
-operator_at-first (Symbol place ∷ rest) = refl
-operator_at-first (Keyword place ∷ rest) = refl
-operator_at-first (_ ∷ rest) = refl
 
 -- no operator follows
 abbrev pub EndsExpr : Option TokenKind → Type 0
@@ -122,7 +108,7 @@ pub reads_exprs : {top slack : ℕ} → IsReader top slack Exprs Whatever (λ nu
 unfolding exprs_at
 reads_exprs {slack = slack} =
     after_symbol slack symbol.LEFT_BRACKET (omega arith)
-    (follow (reads_list AnExpr EndsExpr any_expression (λ top slack. reads_expr) refl) (make (reads_symbol symbol.RIGHT_BRACKET) (λ q end. q.1))
+    (follow (reads_list AnExpr EndsExpr any_expression (λ top slack. reads_expr) refl) (make (reads_one_symbol symbol.RIGHT_BRACKET) (λ q end. q.1))
     (begins_made (SymbolOf symbol.RIGHT_BRACKET) (λ q end. q.1) EndsRight (begins_one (λ u. Symbol symbol.RIGHT_BRACKET) EndsRight (λ u. (refl, refl)))))
 
 -- types in parentheses
@@ -133,7 +119,7 @@ pub reads_types : {P : Type 0} {top slack : ℕ} → IsReader {P = P} top slack 
 unfolding types_at
 reads_types {slack = slack} =
     after_symbol slack symbol.LEFT_PAREN (omega arith)
-    (follow (reads_list (λ p. SpellsType) Whatever (λ p most. type_at) (λ top slack. reads_the_type) tt) (make (reads_symbol symbol.RIGHT_PAREN) (λ q end. q.1))
+    (follow (reads_list (λ p. SpellsType) Whatever (λ p most. type_at) (λ top slack. reads_the_type) tt) (make (reads_one_symbol symbol.RIGHT_PAREN) (λ q end. q.1))
     (begins_made (SymbolOf symbol.RIGHT_PAREN) (λ q end. q.1) (EndsList Whatever) (begins_one (λ u. Symbol symbol.RIGHT_PAREN) (EndsList Whatever) (λ u. (tt, refl)))))
 
 -- columns with commas between

@@ -212,8 +212,8 @@ right_is number op tokens (scalar_form {e = e} is x) =
     let same : copy_or_scalar e ≡ kind.Scalar e = rw is refl in subst (λ o. RightForms number o tokens) same (as_scalar number (copy_or_scalar e) tokens (made x))
 
 -- the reader of the right side
-pub reads_right : {top slack : ℕ} → IsReader top slack SpellsRight EndsRight (λ number left most. right_at number most)
-reads_right {top = top} {slack = slack} = convert (right_turns.reads top slack) is_right right_is (λ first e. e) right_same
+pub reads_right_side : {top slack : ℕ} → IsReader top slack SpellsRight EndsRight (λ number left most. right_at number most)
+reads_right_side {top = top} {slack = slack} = convert (right_turns.reads top slack) is_right right_is (λ first e. e) right_same
 
 -- how many bags the tokens take; a copy is spelled with any numbers
 pub right_bags : (number : Numbers) (op : OpSpec) (tokens after : Kinds) → SpellsRight number op tokens

@@ -29,8 +29,8 @@ record Run (tokens : Kinds) : Type 0 where
   holds : is_run tokens ≡ true
 
 -- two runs one behind the other are a run
-joined : {tokens others : Kinds} → Run tokens → Run others → Run (tokens ++ others)
-joined run run' = record { holds = rw (list_all-append, run.holds) run'.holds }
+Run-append : {tokens others : Kinds} → Run tokens → Run others → Run (tokens ++ others)
+Run-append run run' = record { holds = rw (list_all-append, run.holds) run'.holds }
 
 after : {token : TokenKind} {rest : Kinds} → not (ends_run token) ≡ true → Run rest → Run (token ∷ rest)
 after goes_on run = record { holds = rw goes_on run.holds }
@@ -85,11 +85,11 @@ column_in_run column tokens spelled = rw spelled (lone refl)
 listed_in_run : {A : Type 0} {Item : A → Kinds → Type 0} → ((item : A) (tokens : Kinds) → Item item tokens → Run tokens)
     → {items : List A} {tokens : Kinds} → Listed Item items tokens → Run tokens
 listed_in_run each (Grammar.single first) = each _ _ first
-listed_in_run each (Grammar.and_more first more) = joined (each _ _ first) (after refl (listed_in_run each more))
+listed_in_run each (Grammar.and_more first more) = Run-append (each _ _ first) (after refl (listed_in_run each more))
 
 expr_in_run : {number : List ℕ → ℕ} {rank : ℕ} {e : Expr} {tokens : Kinds} → SpellsExpr number rank e tokens → Run tokens
 expr_in_run (Grammar.stronger spelled) = expr_in_run spelled
-expr_in_run (Grammar.binary op left right) = joined (expr_in_run left) (after (operator_goes_on op) (expr_in_run right))
+expr_in_run (Grammar.binary op left right) = Run-append (expr_in_run left) (after (operator_goes_on op) (expr_in_run right))
 expr_in_run (Grammar.negated spelled) = after refl (expr_in_run spelled)
 expr_in_run (Grammar.positive size fits) = lone refl
 expr_in_run (Grammar.negative size fits) = after refl (lone refl)
@@ -97,8 +97,8 @@ expr_in_run (Grammar.text_literal bytes) = lone refl
 expr_in_run (Grammar.truth_literal holds) = lone (truth_goes_on holds)
 expr_in_run (Grammar.column_place place) = lone refl
 expr_in_run (Grammar.captured_name name) = lone refl
-expr_in_run (Grammar.called function spelled) = after (call_goes_on function) (after refl (joined (expr_in_run spelled) (lone refl)))
-expr_in_run (Grammar.enclosed spelled) = after refl (joined (expr_in_run spelled) (lone refl))
+expr_in_run (Grammar.called function spelled) = after (call_goes_on function) (after refl (Run-append (expr_in_run spelled) (lone refl)))
+expr_in_run (Grammar.enclosed spelled) = after refl (Run-append (expr_in_run spelled) (lone refl))
 
 -- expressions, types and columns with commas between
 exprs_in_run : {number : List ℕ → ℕ} {exprs : List Expr} {tokens : Kinds} → Listed (SpellsExpr number 0) exprs tokens → Run tokens
@@ -112,23 +112,23 @@ columns_in_run spelled = listed_in_run {Item = SpellsColumn} column_in_run spell
 
 right_in_run : {number : List ℕ → ℕ} {op : OpSpec} {tokens : Kinds} → SpellsRight number op tokens → Run tokens
 right_in_run (Grammar.read_form name types) =
-    joined (joined (after refl (expr_in_run name)) (after refl (types_in_run types))) (lone refl)
-right_in_run (Grammar.map_form bag exprs) = after refl (after refl (after refl (joined (exprs_in_run exprs) (lone refl))))
+    Run-append (Run-append (after refl (expr_in_run name)) (after refl (types_in_run types))) (lone refl)
+right_in_run (Grammar.map_form bag exprs) = after refl (after refl (after refl (Run-append (exprs_in_run exprs) (lone refl))))
 right_in_run (Grammar.filter_form bag e) = after refl (after refl (after refl (expr_in_run e)))
 right_in_run (Grammar.words_form bag separator e) =
-    after refl (after refl (after refl (joined (expr_in_run e) (after refl (lone refl)))))
+    after refl (after refl (after refl (Run-append (expr_in_run e) (after refl (lone refl)))))
 right_in_run (Grammar.range_form bag from to) =
-    after refl (after refl (after refl (joined (expr_in_run from) (after refl (expr_in_run to)))))
+    after refl (after refl (after refl (Run-append (expr_in_run from) (after refl (expr_in_run to)))))
 right_in_run (Grammar.join_form bag other left right) =
-    after refl (after refl (joined (columns_in_run left) (after refl (after refl (columns_in_run right)))))
-right_in_run (Grammar.reduce_form bag by keys) = after refl (after refl (after refl (joined (columns_in_run keys) (agg_in_run by))))
+    after refl (after refl (Run-append (columns_in_run left) (after refl (after refl (columns_in_run right)))))
+right_in_run (Grammar.reduce_form bag by keys) = after refl (after refl (after refl (Run-append (columns_in_run keys) (agg_in_run by))))
 right_in_run (Grammar.union_form bag other) = after refl (after refl (after refl (lone refl)))
 right_in_run (Grammar.distinct_form bag) = after refl (lone refl)
 right_in_run (Grammar.only_form bag) = after refl (lone refl)
 right_in_run (Grammar.count_form bag) = after refl (lone refl)
 right_in_run (Grammar.sum_form bag column) = after refl (after refl (lone refl))
-right_in_run (Grammar.row_form exprs) = after refl (after refl (joined (exprs_in_run exprs) (lone refl)))
-right_in_run (Grammar.empty_form types) = after refl (after refl (joined (types_in_run types) (lone refl)))
+right_in_run (Grammar.row_form exprs) = after refl (after refl (Run-append (exprs_in_run exprs) (lone refl)))
+right_in_run (Grammar.empty_form types) = after refl (after refl (Run-append (types_in_run types) (lone refl)))
 right_in_run (Grammar.copy_form named e) = expr_in_run e
 right_in_run (Grammar.scalar_form unnamed e) = expr_in_run e
 

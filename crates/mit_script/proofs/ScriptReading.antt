@@ -5,9 +5,9 @@ use Rattle.mit_script.specs.Grammar.{Kinds, IsRefused, Spells, SpellsBody, Stops
 use Rattle.mit_script.specs.Reading.{Reading, ended, read_script, statements, with_names}
 use Rattle.mit_script.specs.declared.tree.Script.{Script}
 use Rattle.mit_script.specs.declared.tree.Stmt.{Stmt}
-use Rattle.mit_script.proofs.Readers.{first_of}
+use Rattle.mit_script.proofs.Readers.{first_of, ok_once, ok_or_err, some_or_none}
 use Rattle.mit_script.proofs.Renamed.{body_renamed}
-use Rattle.mit_script.proofs.StmtReaders.{Fits, Larger, Read, Stuck, ok_once, ok_or_err, some_or_none}
+use Rattle.mit_script.proofs.StmtReaders.{Fits, Larger, Read, Stuck}
 use Rattle.mit_script.proofs.StmtForms.{Names}
 use Rattle.mit_script.proofs.StmtBodies.{reads_body}
 

@@ -8,7 +8,7 @@ use Rattle.mit_script.specs.Grammar.{Kinds, SpellsStmt, assign, write as write_s
 use Rattle.mit_script.specs.Reading.{begins_statement, statements}
 use Rattle.mit_script.specs.declared.tree.Stmt.{Stmt}
 use Rattle.mit_script.proofs.Readers.{first_of}
-use Rattle.mit_script.proofs.StmtReaders.{Spelling, IsReader, Bind, both, bind_within, Made, made, make, along, convert, Pure, pure, reads_none, Or, this, other, choose, deeper, at_no_depth, widely}
+use Rattle.mit_script.proofs.StmtReaders.{Spelling, IsReader, Bind, both, bind_within, Made, made, make, along, convert, Pure, pure, reads_pure, Or, this, other, choose, deeper, at_no_depth, widely}
 use Rattle.mit_script.proofs.StmtForms.{Names, EndsStmt, EndsBody, begins-first, begins_local, first_begins, reads_stmt, write_begins}
 
 -- a statement begins as one
@@ -83,7 +83,7 @@ reads_statements (suc top) =
     (convert
     (choose begins_statement begins_local
     (bind_within 0 (reads_stmt (λ names left most. statements names most left) (reads_statements top)) (make (along (λ q. q.0) (reads_statements top)) (λ q rest. (q.1 ∷ []) ++ rest)) stmt_length rest_first)
-    (reads_none EndsBody (λ names. [])) body_seen body_unseen)
+    (reads_pure EndsBody (λ names. [])) body_seen body_unseen)
     is_body body_is (λ first e. e) (λ names left most tokens. refl))
 
 -- with one bound for both

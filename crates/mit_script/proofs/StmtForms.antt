@@ -9,14 +9,14 @@ use Rattle.mit_script.specs.Grammar.{Kinds, SpellsRight, SpellsWrite, write_form
 use Rattle.mit_script.specs.Reading.{Operation, assignment, begins_statement, block_at, branch, condition_at, else_at, loop, right_at, sees_word, statement, write, write_at}
 use Rattle.mit_script.specs.declared.tree.Stmt.{Stmt}
 use Rattle.mit_script.specs.declared.tree.Stmt.TheVariants as stmt
-use Rattle.mit_script.proofs.Readers.{first_of}
+use Rattle.mit_script.proofs.Readers.{first_is_word, first_of, sees_word-first, word_local}
 use Rattle.mit_script.proofs.RunLemmas.{right_run, write_run, condition_run}
 use Rattle.mit_script.proofs.Renamed.{right_renamed, write_renamed, condition_renamed}
-use Rattle.mit_script.proofs.StmtReaders.{Spelling, Reader, IsReader, IsLocal, One, one, Bind, both, bind_within, Made, made, make, along, convert, Pure, pure, reads_none, Or, this, other, choose}
-use Rattle.mit_script.proofs.StmtTokens.{Whatever, SymbolOf, reads_symbol, reads_name, first_is_word, sees_word-first, word_local, AfterWord, AfterSymbol, after_symbol, choose_word}
+use Rattle.mit_script.proofs.StmtReaders.{Spelling, Reader, IsReader, IsLocal, One, one, Bind, both, bind_within, Made, made, make, along, convert, Pure, pure, reads_pure, Or, this, other, choose}
+use Rattle.mit_script.proofs.StmtTokens.{Whatever, SymbolOf, reads_one_symbol, reads_one_name, AfterWord, AfterSymbol, after_symbol, choose_word}
 use Rattle.mit_script.proofs.RightReaders.{begins_one, begins_made, follow, then_any, ends_so, EndsExpr, EndsRight}
 use Rattle.mit_script.proofs.RightForms.{word_unseen, or_unseen, reads_write, reads_condition}
-use Rattle.mit_script.proofs.RightSide.{reads_right, right_bags, write_bags, condition_bags, write_first}
+use Rattle.mit_script.proofs.RightSide.{reads_right_side, right_bags, write_bags, condition_bags, write_first}
 use Rattle.mit_script.proofs.StmtOperation.{IsForm, Ended, with_end, reads_operation}
 
 abbrev pub Names : Type 0
@@ -25,7 +25,7 @@ Names = List (List ℕ)
 -- ---- operators in statements
 
 right_is_form : IsForm SpellsRight EndsRight right_at symbol.SEMICOLON
-right_is_form = record { reads = λ top slack. reads_right; in_run = right_run; bags = right_bags; renamed = right_renamed; ends = (refl, refl); ends_it = refl }
+right_is_form = record { reads = λ top slack. reads_right_side; in_run = right_run; bags = right_bags; renamed = right_renamed; ends = (refl, refl); ends_it = refl }
 
 write_is_form : IsForm SpellsWrite EndsExpr write_at symbol.SEMICOLON
 write_is_form = record {
@@ -95,7 +95,7 @@ AssignForm = Bind (One Name) (AfterSymbol symbol.EQUALS (Made (λ q. RightEnded 
 reads_assignment : {top slack : ℕ} → IsReader top slack AssignForm Whatever (λ names left most. assignment names most)
 unfolding assignment
 reads_assignment {slack = slack} =
-    then_any reads_name (after_symbol slack symbol.EQUALS (omega arith)
+    then_any reads_one_name (after_symbol slack symbol.EQUALS (omega arith)
     (make (along (λ q. q.0) (reads_operation SpellsRight EndsRight right_at symbol.SEMICOLON right_is_form)) (λ q made. stmt.Assign (number_in q.0 q.1) made.0 made.1)))
 
 -- a `write`
@@ -128,7 +128,7 @@ Block = Bind SpellsBody (Made (SymbolOf symbol.RIGHT_BRACE) (λ q end. q.1))
 
 reads_block : {top slack : ℕ} (inner : Inner) → IsReader top slack SpellsBody EndsBody inner → IsReader top slack Block Whatever (λ names left most. block_at (inner names left most))
 unfolding block_at
-reads_block inner reads = follow reads (make (reads_symbol symbol.RIGHT_BRACE) (λ q end. q.1))
+reads_block inner reads = follow reads (make (reads_one_symbol symbol.RIGHT_BRACE) (λ q end. q.1))
     (begins_made (SymbolOf symbol.RIGHT_BRACE) (λ q end. q.1) EndsBody (begins_one (λ u. Symbol symbol.RIGHT_BRACE) EndsBody (λ u. (refl, refl))))
 
 -- what stands behind the first block of an `if`
@@ -151,7 +151,7 @@ none_unseen names body tokens after pure ends = sees_word-first word.ELSE after 
 reads_else : {top slack : ℕ} (inner : Inner) → IsReader top slack SpellsBody EndsBody inner → IsReader top slack SpellsElse EndsStmt (λ names left most. else_at (inner names left most))
 unfolding else_at
 reads_else {slack = slack} inner reads = convert
-    (choose_word slack word.ELSE (omega arith) (ends_so (after_symbol slack symbol.LEFT_BRACE (omega arith) (reads_block inner reads)) (λ first e. tt)) (reads_none EndsStmt (λ names. [])) none_unseen)
+    (choose_word slack word.ELSE (omega arith) (ends_so (after_symbol slack symbol.LEFT_BRACE (omega arith) (reads_block inner reads)) (λ first e. tt)) (reads_pure EndsStmt (λ names. [])) none_unseen)
     is_else else_is (λ first e. e) (λ names left most tokens. refl)
 
 -- ---- `if` and `while`

@@ -8,11 +8,11 @@ use Rattle.mit_lex.specs.declared.token.TokenKind.{TokenKind}
 use Rattle.mit_lex.specs.declared.token.TokenKind.TheVariants.{Symbol}
 use Rattle.mit_script.specs.Grammar.{Kinds, SpellsOver, arguments_in, captured_in, number_in}
 use Rattle.mit_script.specs.Reading.{Reading, ◌>>=◌, Operation, bags_ahead, expect_symbol, number_ahead, operation, run_of}
-use Rattle.mit_script.proofs.Readers.{first_of}
+use Rattle.mit_script.proofs.Readers.{first_of, first_of-append, ok_once, ok_or_err}
 use Rattle.mit_script.proofs.RunLemmas.{is_run, run_of-append}
 use Rattle.mit_script.proofs.RightReaders.{Numbers}
-use Rattle.mit_script.proofs.StmtReaders.{Spelling, IsReader, Read, Stuck, Fits, fits_front, fits_back, bind_ok, bind_err, ok_once, ok_or_err, first_of-append}
-use Rattle.mit_script.proofs.StmtTokens.{Whatever, SymbolOf, reads_symbol, one_is}
+use Rattle.mit_script.proofs.StmtReaders.{Spelling, IsReader, Read, Stuck, Fits, fits_front, fits_back, bind_ok, bind_err}
+use Rattle.mit_script.proofs.StmtTokens.{Whatever, SymbolOf, reads_one_symbol, one_is}
 
 -- a form of operators: its reader, and what the numbers of names change
 pub record IsForm (Form : Spelling Numbers OpSpec) (F : Option TokenKind → Type 0) (form : Numbers → ℕ → Kinds → Reading OpSpec) (ending : ℕ) : Type 0 where
@@ -72,7 +72,7 @@ viable Form F form ending is names number op tokens x =
 symbol_read : (ending : ℕ) (tokens rest : Kinds) (u : Unit {0}) → expect_symbol ending tokens ≡ Ok (u, rest) → tokens ≡ Symbol ending ∷ rest
 symbol_read ending tokens rest u is =
     let most = length tokens + 1 in
-    let x = (reads_symbol {P = Unit {0}} {top = 0} {slack = most} ending).sound tt 0 most u tokens rest (record { low = omega arith; deep = omega arith; wide = omega arith }) is in
+    let x = (reads_one_symbol {P = Unit {0}} {top = 0} {slack = most} ending).sound tt 0 most u tokens rest (record { low = omega arith; deep = omega arith; wide = omega arith }) is in
     x.cut ∙ ap (λ front. front ++ rest) (one_is (λ (v : Unit {0}). Symbol ending) tt u x.used x.spelled)
 
 -- what an operator that was read is
@@ -185,7 +185,7 @@ operation_stuck top slack Form F form ending is names left most tokens rest fits
           = (is.reads top slack).sound (number_ahead tokens) left most a.0.0 tokens a.0.1 fits a.1 in
           elim (bind_err (expect_symbol ending a.0.1) (λ end. Ok ((a.0.0, arguments_in names (bag_inputs_of a.0.0) (run_of tokens)), end.1)) rest a.2) [
             | inl f ↦ ending_stuck top slack Form F form ending is names left most a.0.0 tokens a.0.1 rest x
-                ((reads_symbol ending).stuck tt left most a.0.1 rest (fits_back top slack slack left most x.used a.0.1 (omega arith) (rw x.cut at fits)) f)
+                ((reads_one_symbol ending).stuck tt left most a.0.1 rest (fits_back top slack slack left most x.used a.0.1 (omega arith) (rw x.cut at fits)) f)
             | inr b ↦ absurd (ok_or_err _ _ b.2)
           ]
     ]

@@ -1,10 +1,10 @@
 -- Readers and what they read. Each is put together from smaller ones.
-use Rattle.std.proofs.Common.{◌≡◌, ℕ, zero, suc, ◌+◌, ◌<◌, ◌≤◌, List, [], ◌∷◌, ◌++◌, length, Bool, true, false, if◌then◌else◌, Option, Some, None, Result, Ok, Err, ◌⊎◌, inl, inr, refl, ap, sym, subst, ◌∙◌, arith, append_assoc, length-append}
+use Rattle.std.proofs.Common.{◌≡◌, ℕ, zero, suc, ◌+◌, ◌<◌, ◌≤◌, [], ◌∷◌, ◌++◌, length, Bool, true, false, if◌then◌else◌, Option, Ok, Err, ◌⊎◌, inl, inr, refl, ap, sym, subst, ◌∙◌, arith, append_assoc, length-append}
 use Rattle.std.proofs.lemmas.List.{append_cancel_right}
 use Rattle.mit_lex.specs.declared.token.TokenKind.{TokenKind}
 use Rattle.mit_script.specs.Grammar.{Kinds}
 use Rattle.mit_script.specs.Reading.{Reading, ◌>>=◌}
-use Rattle.mit_script.proofs.Readers.{first_of}
+use Rattle.mit_script.proofs.Readers.{err_once, first_of, first_of-append, ok_once, ok_or_err, some_or_none}
 
 -- the tokens are within both bounds of a reader; the first bound, of the depth, is at most `top`
 pub record Fits (top slack left most : ℕ) (tokens : Kinds) : Type 0 where
@@ -55,15 +55,6 @@ pub record IsReader {P A : Type 0} (top slack : ℕ) (R : Spelling P A) (F : Opt
 
 -- ---- results
 
-pub ok_once : {A E : Type 0} (a b : A) → Path (Result A E) (Ok a) (Ok b) → a ≡ b
-ok_once a b is = cc
-
-err_once : {A E : Type 0} (a b : E) → Path (Result A E) (Err a) (Err b) → a ≡ b
-err_once a b is = cc
-
-pub ok_or_err : {A E : Type 0} (a : A) (e : E) → Path (Result A E) (Ok a) (Err e) → ⊥
-ok_or_err a e is = cc
-
 -- both of two readings succeed where the second does
 pub bind_ok : {A B : Type 0} (x : Reading A) (next : A × Kinds → Reading B) (done : B × Kinds) → (x >>= next) ≡ Ok done
     → (read : A × Kinds) × (x ≡ Ok read) × (next read ≡ Ok done)
@@ -76,18 +67,6 @@ pub bind_err : {A B : Type 0} (x : Reading A) (next : A × Kinds → Reading B) 
 bind_err (Ok read) next rest is = inr (read, refl, is)
 bind_err (Err other) next rest is = inl (ap Err (err_once _ _ is))
 
-some_once : {A : Type 0} (a b : A) → Path (Option A) (Some a) (Some b) → a ≡ b
-some_once a b is = cc
-
-pub some_or_none : {A : Type 0} (a : A) → Path (Option A) (Some a) None → ⊥
-some_or_none a is = cc
-
-cons_head : {A : Type 0} (a b : A) (x y : List A) → (a ∷ x) ≡ (b ∷ y) → a ≡ b
-cons_head a b x y is = cc
-
-nil_or_cons : {A : Type 0} (a : A) (x : List A) → Path (List A) [] (a ∷ x) → ⊥
-nil_or_cons a x is = cc
-
 -- ---- bounds
 
 pub fits_front : (top slack left most : ℕ) (front back : Kinds) → Fits top slack left most (front ++ back) → Fits top slack left most front
@@ -96,11 +75,6 @@ fits_front top slack left most front back fits = record { low = fits.low; deep =
 pub fits_back : (top slack other left most : ℕ) (front back : Kinds) → slack ≤ other + length front → Fits top slack left most (front ++ back)
     → Fits top other left most back
 fits_back top slack other left most front back spare fits = record { low = fits.low; deep = grind (arith, length-append, fits.deep, spare); wide = grind (arith, length-append, fits.wide) }
-
--- what comes first depends on what comes first
-pub first_of-append : (front later rest : Kinds) → first_of later ≡ first_of rest → first_of (front ++ later) ≡ first_of (front ++ rest)
-first_of-append [] later rest same = same
-first_of-append (token ∷ front) later rest same = refl
 
 -- ---- one piece behind another
 
@@ -317,8 +291,8 @@ pure_complete : {P C : Type 0} (f : P → C) (p : P) (c : C) (tokens after : Kin
 pure_complete f p c tokens after pure = refl
 
 -- the reader that takes nothing
-pub reads_none : {P C : Type 0} {top slack : ℕ} (F : Option TokenKind → Type 0) (f : P → C) → IsReader top slack (Pure f) F (λ p left most tokens. Ok (f p, tokens))
-reads_none {C = C} F f = record {
+pub reads_pure : {P C : Type 0} {top slack : ℕ} (F : Option TokenKind → Type 0) (f : P → C) → IsReader top slack (Pure f) F (λ p left most tokens. Ok (f p, tokens))
+reads_pure {C = C} F f = record {
   some = λ p. (f p, [], pure);
   complete = λ p left most a tokens after fits x e. pure_complete f p a tokens after x;
   sound = λ p left most a tokens rest fits is.
@@ -469,7 +443,7 @@ refused_again : {A : Type 0} (reader : Kinds → Reading A) (tokens rest later :
 refused_again reader tokens [] [] at_end cut refused same = at_end
 refused_again reader tokens [] (token ∷ later) at_end cut refused same = absurd (some_or_none _ same)
 refused_again reader tokens (first ∷ rest) [] at_end cut refused same = absurd (some_or_none _ (sym same))
-refused_again reader tokens (first ∷ rest) (token ∷ later) at_end cut refused same = rw (some_once _ _ same) (refused first rest cut later)
+refused_again reader tokens (first ∷ rest) (token ∷ later) at_end cut refused same = let head : token ≡ first = cc in rw head (refused first rest cut later)
 
 -- where the token is refused, another one could stand there
 one_stuck : {P A : Type 0} (top : ℕ) (token : A → TokenKind) (reader : Kinds → Reading A) → TakesOne token reader → (p : P) (left most : ℕ) (tokens rest : Kinds)
@@ -481,7 +455,7 @@ one_stuck top token reader takes p left most [] rest is = record {
   cut = err_once _ _ (sym takes.at_end ∙ is);
   spelled = one;
   again = λ q depth bound later larger same.
-      refused_again reader [] rest later takes.at_end (err_once _ _ (sym takes.at_end ∙ is)) (λ first more e. absurd (nil_or_cons _ _ e)) same;
+      refused_again reader [] rest later takes.at_end (err_once _ _ (sym takes.at_end ∙ is)) (λ first more e. absurd cc) same;
 }
 one_stuck top token reader takes p left most (first ∷ tokens) rest is = elim (takes.refuses first) [
   | inl e ↦ absurd (ok_or_err _ _ (sym (takes.takes e.0 tokens) ∙ ap (λ t. reader (t ∷ tokens)) (sym e.1) ∙ is))
@@ -495,7 +469,7 @@ one_stuck top token reader takes p left most (first ∷ tokens) rest is = elim (
         spelled = one;
         again = λ q depth bound later larger same.
             refused_again reader (first ∷ tokens) rest later takes.at_end cut
-            (λ other more e rest. let head : first ≡ other = cons_head _ _ _ _ e in rw (sym head) (refused rest)) same;
+            (λ other more e rest. let head : first ≡ other = cc in rw (sym head) (refused rest)) same;
       }
 ]
 

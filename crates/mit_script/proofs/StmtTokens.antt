@@ -10,8 +10,8 @@ use Rattle.mit_lex.specs.declared.symbol.TheConstants as symbol
 use Rattle.mit_lex.specs.declared.keyword.TheConstants as word
 use Rattle.mit_script.specs.Grammar.{Kinds, Listed, single, and_more, SpellsType, SpellsColumn, type_token}
 use Rattle.mit_script.specs.Reading.{Reading, ◌>>=◌, expect_symbol, expect_word, name_at, column_at, text_at, type_at, sees_symbol, sees_word, behind, listed}
-use Rattle.mit_script.proofs.Readers.{first_of}
-use Rattle.mit_script.proofs.StmtReaders.{Spelling, Reader, IsReader, IsLocal, TakesOne, One, one, reads_one, Bind, both, bind, bind_within, Made, made, make, along, convert, Pure, pure, reads_none, Or, this, other, choose, deeper, at_no_depth, widely}
+use Rattle.mit_script.proofs.Readers.{first_of, word_local}
+use Rattle.mit_script.proofs.StmtReaders.{Spelling, Reader, IsReader, IsLocal, TakesOne, One, one, reads_one, Bind, both, bind, bind_within, Made, made, make, along, convert, Pure, pure, reads_pure, Or, this, other, choose, deeper, at_no_depth, widely}
 
 -- anything may follow
 abbrev pub Whatever : Option TokenKind → Type 0
@@ -100,20 +100,20 @@ abbrev pub WordOf : {P : Type 0} → ℕ → Spelling P (Unit {0})
 WordOf wanted = One (λ u. Keyword wanted)
 
 -- the readers of one token, which anything may follow
-pub reads_symbol : {P : Type 0} {top slack : ℕ} (wanted : ℕ) → IsReader {P = P} top slack (SymbolOf wanted) Whatever (λ p left most. expect_symbol wanted)
-reads_symbol wanted = reads_one Whatever (λ u. Symbol wanted) (expect_symbol wanted) (symbol_takes wanted)
+pub reads_one_symbol : {P : Type 0} {top slack : ℕ} (wanted : ℕ) → IsReader {P = P} top slack (SymbolOf wanted) Whatever (λ p left most. expect_symbol wanted)
+reads_one_symbol wanted = reads_one Whatever (λ u. Symbol wanted) (expect_symbol wanted) (symbol_takes wanted)
 
-reads_word : {P : Type 0} {top slack : ℕ} (wanted : ℕ) → IsReader {P = P} top slack (WordOf wanted) Whatever (λ p left most. expect_word wanted)
-reads_word wanted = reads_one Whatever (λ u. Keyword wanted) (expect_word wanted) (word_takes wanted)
+reads_one_word : {P : Type 0} {top slack : ℕ} (wanted : ℕ) → IsReader {P = P} top slack (WordOf wanted) Whatever (λ p left most. expect_word wanted)
+reads_one_word wanted = reads_one Whatever (λ u. Keyword wanted) (expect_word wanted) (word_takes wanted)
 
-pub reads_name : {P : Type 0} {top slack : ℕ} → IsReader {P = P} top slack (One Name) Whatever (λ p left most. name_at)
-reads_name = reads_one Whatever Name name_at name_takes
+pub reads_one_name : {P : Type 0} {top slack : ℕ} → IsReader {P = P} top slack (One Name) Whatever (λ p left most. name_at)
+reads_one_name = reads_one Whatever Name name_at name_takes
 
-pub reads_column : {P : Type 0} {top slack : ℕ} → IsReader {P = P} top slack (One Column) Whatever (λ p left most. column_at)
-reads_column = reads_one Whatever Column column_at column_takes
+pub reads_one_column : {P : Type 0} {top slack : ℕ} → IsReader {P = P} top slack (One Column) Whatever (λ p left most. column_at)
+reads_one_column = reads_one Whatever Column column_at column_takes
 
-pub reads_text : {P : Type 0} {top slack : ℕ} → IsReader {P = P} top slack (One Text) Whatever (λ p left most. text_at)
-reads_text = reads_one Whatever Text text_at text_takes
+pub reads_one_text : {P : Type 0} {top slack : ℕ} → IsReader {P = P} top slack (One Text) Whatever (λ p left most. text_at)
+reads_one_text = reads_one Whatever Text text_at text_takes
 
 -- the one token, as an equation
 pub one_is : {P A : Type 0} (token : A → TokenKind) (p : P) (a : A) (tokens : Kinds) → One token p a tokens → tokens ≡ token a ∷ []
@@ -123,7 +123,7 @@ is_one : {P A : Type 0} (token : A → TokenKind) (p : P) (a : A) (tokens : Kind
 is_one token p a tokens is = rw is one
 
 pub reads_the_column : {P : Type 0} {top slack : ℕ} → IsReader {P = P} top slack (λ p. SpellsColumn) Whatever (λ p left most. column_at)
-reads_the_column = convert reads_column (one_is Column) (is_one Column) (λ first e. e) (λ p left most tokens. refl)
+reads_the_column = convert reads_one_column (one_is Column) (is_one Column) (λ first e. e) (λ p left most tokens. refl)
 
 pub reads_the_type : {P : Type 0} {top slack : ℕ} → IsReader {P = P} top slack (λ p. SpellsType) Whatever (λ p left most. type_at)
 reads_the_type = convert (reads_one Whatever type_token type_at type_takes) (one_is type_token) (is_one type_token) (λ first e. e) (λ p left most tokens. refl)
@@ -134,10 +134,6 @@ abbrev pub first_is_symbol : ℕ → Option TokenKind → Bool
 first_is_symbol wanted (Some (Symbol place)) = place == wanted
 first_is_symbol wanted _ = false
 
-abbrev pub first_is_word : ℕ → Option TokenKind → Bool
-first_is_word wanted (Some (Keyword place)) = place == wanted
-first_is_word wanted _ = false
-
 -- what is seen depends on the first token
 sees_symbol-first : (wanted : ℕ) (tokens : Kinds) → sees_symbol wanted tokens ≡ first_is_symbol wanted (first_of tokens)
 unfolding sees_symbol
@@ -145,17 +141,8 @@ sees_symbol-first wanted [] = refl
 sees_symbol-first wanted (Symbol place ∷ rest) = refl
 sees_symbol-first wanted (_ ∷ rest) = refl
 
-pub sees_word-first : (wanted : ℕ) (tokens : Kinds) → sees_word wanted tokens ≡ first_is_word wanted (first_of tokens)
-unfolding sees_word
-sees_word-first wanted [] = refl
-sees_word-first wanted (Keyword place ∷ rest) = refl
-sees_word-first wanted (_ ∷ rest) = refl
-
 symbol_local : (wanted : ℕ) → IsLocal (sees_symbol wanted)
 symbol_local wanted x y same = sees_symbol-first wanted x ∙ ap (first_is_symbol wanted) same ∙ sym (sees_symbol-first wanted y)
-
-pub word_local : (wanted : ℕ) → IsLocal (sees_word wanted)
-word_local wanted x y same = sees_word-first wanted x ∙ ap (first_is_word wanted) same ∙ sym (sees_word-first wanted y)
 
 -- a test that is made twice
 tested_twice : {A B : Type 0} (test : Bool) (taken : A × Kinds) (refused : Kinds) (next : A × Kinds → Reading B) (x : Reading B)
@@ -202,12 +189,12 @@ token_room slack low token spare p a tokens one = spare
 pub after_word : {P A : Type 0} {top slack : ℕ} (low : ℕ) (wanted : ℕ) {R : Spelling P A} {F : Option TokenKind → Type 0} {r : Reader P A} → slack ≤ low + 1 → IsReader top low R F r
     → IsReader top slack (AfterWord wanted R) F (λ p left most tokens. expect_word wanted tokens >>= λ end. r p left most end.1)
 after_word {slack = slack} low wanted spare reads =
-    bind_within low (reads_word wanted) (along (λ q. q.0) reads) (token_room slack low (λ u. Keyword wanted) spare) (λ p a c tokens after x e. tt)
+    bind_within low (reads_one_word wanted) (along (λ q. q.0) reads) (token_room slack low (λ u. Keyword wanted) spare) (λ p a c tokens after x e. tt)
 
 pub after_symbol : {P A : Type 0} {top slack : ℕ} (low : ℕ) (wanted : ℕ) {R : Spelling P A} {F : Option TokenKind → Type 0} {r : Reader P A} → slack ≤ low + 1 → IsReader top low R F r
     → IsReader top slack (AfterSymbol wanted R) F (λ p left most tokens. expect_symbol wanted tokens >>= λ end. r p left most end.1)
 after_symbol {slack = slack} low wanted spare reads =
-    bind_within low (reads_symbol wanted) (along (λ q. q.0) reads) (token_room slack low (λ u. Symbol wanted) spare) (λ p a c tokens after x e. tt)
+    bind_within low (reads_one_symbol wanted) (along (λ q. q.0) reads) (token_room slack low (λ u. Symbol wanted) spare) (λ p a c tokens after x e. tt)
 
 -- what is behind a symbol, where it is seen, or something else
 choose_symbol : {P A : Type 0} {top slack : ℕ} (low : ℕ) (wanted : ℕ) {R S : Spelling P A} {F : Option TokenKind → Type 0} {r s : Reader P A} → slack ≤ low + 1
@@ -266,7 +253,7 @@ list_at R F r item comma zero = at_no_depth (λ p. let x = (item 0 0).some p in 
 list_at R F r item comma (suc top) =
     deeper (λ p left most. listed (r p most) left)
     (convert (bind (item top 1)
-    (choose_symbol 0 symbol.COMMA (omega arith) (make (along (λ q. q.0) (list_at R F r item comma top)) (λ q items. (q.1 ∷ []) ++ items)) (reads_none (EndsList F) (λ q. q.1 ∷ []))
+    (choose_symbol 0 symbol.COMMA (omega arith) (make (along (λ q. q.0) (list_at R F r item comma top)) (λ q items. (q.1 ∷ []) ++ items)) (reads_pure (EndsList F) (λ q. q.1 ∷ []))
     (none_sees F (λ q. q.1 ∷ [])))
     (rest_meets R F comma))
     (is_listed R) (list_is R) (λ next e. e) (λ p left most tokens. refl))

@@ -48,9 +48,13 @@ head_step (stmt.Write operator args) = writes operator args ∷ []
 head_step (stmt.If operator args on_true on_false) = decides operator args ∷ flat_map (λ heads. heads) on_true ++ flat_map (λ heads. heads) on_false
 head_step (stmt.While operator args body) = decides operator args ∷ flat_map (λ heads. heads) body
 
--- the heads of a script's statements, in the order of the text
+-- the heads of a statement and of those inside it, in the order of the text
+abbrev pub heads_in : Stmt → List Head
+heads_in = fold-Stmt (List Head) head_step
+
+-- the same of a script
 abbrev pub heads_of : Script → List Head
-heads_of script = flat_map (fold-Stmt (List Head) head_step) script.body
+heads_of script = flat_map heads_in script.body
 
 -- the captured scalars that an expression names, as often as it names them, from left to right
 abbrev pub use_step : Expr-F (List ℕ) → List ℕ
