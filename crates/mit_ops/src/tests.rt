@@ -121,30 +121,18 @@ fn expect_type(
     );
 }
 
-/// An operator in letters: an expression is one letter, a list of expressions or of columns a text of them.
-#[derive(Clone, Copy, Debug)]
-enum Form {
-    Scalar(u8),
-    Read(u8, &'static str),
-    Map(&'static str),
-    Filter(u8),
-    Words(u8, &'static str),
-    Range(u8, u8),
-    Join(&'static str, &'static str),
-    Reduce(&'static str, Agg),
-    Union,
-    Distinct,
-    Only,
-    Count,
-    Sum(u8),
-    Row(&'static str),
-    Empty(&'static str),
-    Write(u8),
-    Copy,
+/// The part of a row that has this number, from 0, where this stands between parts; where there is none, the empty text.
+fn part<'a>(row: &'a str, between: &str, number: usize) -> &'a str {
+    row.split(between).nth(number).unwrap_or("")
 }
 
-/// An operator, the columns of its bags as far as it takes them, its captured scalars, and what it gives.
-type Case = (Form, &'static str, &'static str, &'static str, &'static str);
+fn letter(words: &str) -> u8 {
+    words.as_bytes().first().copied().unwrap_or(0)
+}
+
+fn column(words: &str) -> u8 {
+    letter(words).saturating_sub(b'a')
+}
 
 fn words(rt: &(impl Abort + AllocGlobal), letter: u8, separator: &str) -> OpSpec {
     OpSpec::FlatMap {
@@ -164,65 +152,99 @@ fn range(rt: &(impl Abort + AllocGlobal), from: u8, to: u8) -> OpSpec {
     }
 }
 
-fn spec_of(rt: &(impl Abort + AllocGlobal), form: Form) -> OpSpec {
-    match form {
-        Form::Scalar(letter) => OpSpec::Scalar {
-            expr: expr(rt, letter),
-        },
-        Form::Read(letter, letters) => OpSpec::Read {
-            name: expr(rt, letter),
-            types: column_types(rt, letters),
-        },
-        Form::Map(letters) => OpSpec::Map {
-            exprs: exprs(rt, letters),
-        },
-        Form::Filter(letter) => OpSpec::Filter {
-            expr: expr(rt, letter),
-        },
-        Form::Words(letter, separator) => words(rt, letter, separator),
-        Form::Range(from, to) => range(rt, from, to),
-        Form::Join(left, right) => OpSpec::Join {
-            left: columns(rt, left),
-            right: columns(rt, right),
-        },
-        Form::Reduce(letters, agg) => OpSpec::Reduce {
-            keys: columns(rt, letters),
-            agg,
-        },
-        Form::Union => OpSpec::Union,
-        Form::Distinct => OpSpec::Distinct,
-        Form::Only => OpSpec::Only,
-        Form::Count => OpSpec::Count,
-        Form::Sum(column) => OpSpec::Sum { column },
-        Form::Row(letters) => OpSpec::MakeRow {
-            exprs: exprs(rt, letters),
-        },
-        Form::Empty(letters) => OpSpec::Empty {
-            types: column_types(rt, letters),
-        },
-        Form::Write(letter) => OpSpec::Write {
-            name: expr(rt, letter),
-        },
-        Form::Copy => OpSpec::Copy,
+fn join(rt: &(impl Abort + AllocGlobal), left: &str, right: &str) -> OpSpec {
+    OpSpec::Join {
+        left: columns(rt, left),
+        right: columns(rt, right),
     }
 }
 
-fn expect_case(rt: &(impl Abort + AllocGlobal), case: Case) {
-    let (form, left, right, captures, due) = case;
+fn reduce(rt: &(impl Abort + AllocGlobal), keys: &str, name: &str, of: &str) -> OpSpec {
+    OpSpec::Reduce {
+        keys: columns(rt, keys),
+        agg: match name {
+            "sum" => Agg::Sum(column(of)),
+            "min" => Agg::Min(column(of)),
+            "max" => Agg::Max(column(of)),
+            _ => Agg::Count,
+        },
+    }
+}
+
+/// An operator with commas between its name and what it takes: an expression is one letter, a list of expressions or of
+/// columns a text of them.
+fn spec_of(rt: &(impl Abort + AllocGlobal), form: &str) -> OpSpec {
+    let first = part(form, ",", 1);
+    let second = part(form, ",", 2);
+    match part(form, ",", 0) {
+        "scalar" => OpSpec::Scalar {
+            expr: expr(rt, letter(first)),
+        },
+        "read" => OpSpec::Read {
+            name: expr(rt, letter(first)),
+            types: column_types(rt, second),
+        },
+        "map" => OpSpec::Map {
+            exprs: exprs(rt, first),
+        },
+        "filter" => OpSpec::Filter {
+            expr: expr(rt, letter(first)),
+        },
+        "words" => words(rt, letter(first), second),
+        "range" => range(rt, letter(first), letter(second)),
+        "join" => join(rt, first, second),
+        "reduce" => reduce(rt, first, second, part(form, ",", 3)),
+        "row" => OpSpec::MakeRow {
+            exprs: exprs(rt, first),
+        },
+        "empty" => OpSpec::Empty {
+            types: column_types(rt, first),
+        },
+        "write" => OpSpec::Write {
+            name: expr(rt, letter(first)),
+        },
+        name => plain(rt, name, first),
+    }
+}
+
+/// The same of one that takes bags and at most a column.
+fn plain(rt: &impl Abort, name: &str, first: &str) -> OpSpec {
+    match name {
+        "union" => OpSpec::Union,
+        "distinct" => OpSpec::Distinct,
+        "only" => OpSpec::Only,
+        "count" => OpSpec::Count,
+        "sum" => OpSpec::Sum {
+            column: column(first),
+        },
+        "copy" => OpSpec::Copy,
+        _ => panic!(rt; "no operator: {name}"),
+    }
+}
+
+/// A row is an operator, the columns of its bags as far as it takes them and its captured scalars, with bars between, and
+/// behind an arrow what it gives.
+fn expect_row(rt: &(impl Abort + AllocGlobal), row: &str) {
+    let over = part(row, " => ", 0);
+    expect_case(rt, part(over, "|", 0), over, part(row, " => ", 1));
+}
+
+fn expect_case(rt: &(impl Abort + AllocGlobal), form: &str, over: &str, due: &str) {
     let spec = spec_of(rt, form);
     let mut bags = Vec::new(rt.alloc());
     if spec.bag_inputs() > 0 {
-        bags.push(bag(rt, left)).expect(rt, "memory");
+        bags.push(bag(rt, part(over, "|", 1))).expect(rt, "memory");
     }
     if spec.bag_inputs() > 1 {
-        bags.push(bag(rt, right)).expect(rt, "memory");
+        bags.push(bag(rt, part(over, "|", 2))).expect(rt, "memory");
     }
-    expect_type(rt, &spec, &bags, captures, due);
+    expect_type(rt, &spec, &bags, part(over, "|", 3), due);
+    drop(spec);
 }
 
-fn expect_all(rt: &(impl Abort + AllocGlobal), cases: &[Case]) {
-    for case in cases {
-        expect_case(rt, *case);
+fn expect_all(rt: &(impl Abort + AllocGlobal), rows: &str) {
+    for row in rows.lines() {
+        expect_row(rt, row);
     }
 }
 
@@ -231,307 +253,216 @@ fn expect_copy(rt: &(impl Abort + AllocGlobal), spec: &OpSpec) {
     let printed = format!(in rt.alloc(); "{spec:?}").expect(rt, "memory");
     let printed_copy = format!(in rt.alloc(); "{copy:?}").expect(rt, "memory");
     assert_eq!(rt; printed.as_str(), printed_copy.as_str());
+    drop(copy);
 }
 
-/// For each kind an operator over a captured text and integer, how many bags it takes, what it captures, and what it
-/// gives over bags of the columns `ITB`.
-const KINDS: [(Form, u16, u32, &str); 16] = [
-    (Form::Scalar(b'Y'), 0, 2, "scalar I"),
-    (Form::Read(b'X', "BI"), 0, 1, "BI"),
-    (Form::Map("cYX"), 1, 2, "BIT"),
-    (Form::Filter(b'c'), 1, 0, "ITB"),
-    (Form::Range(b'Y', b'a'), 1, 2, "ITBI"),
-    (Form::Join("ab", "ab"), 2, 0, "ITBITB"),
-    (Form::Reduce("cb", Agg::Max(1)), 1, 0, "BTT"),
-    (Form::Union, 2, 0, "ITB"),
-    (Form::Distinct, 1, 0, "ITB"),
-    (Form::Only, 1, 0, "WrongType"),
-    (Form::Count, 1, 0, "scalar I"),
-    (Form::Sum(0), 1, 0, "scalar I"),
-    (Form::Row("IXT"), 0, 1, "ITT"),
-    (Form::Empty("TT"), 0, 0, "TT"),
-    (Form::Write(b'X'), 1, 1, ""),
-    (Form::Copy, 1, 0, "ITB"),
-];
+/// For each kind an operator over a captured text and integer, the number of the kind, how many bags it takes and what it
+/// captures, and behind an arrow what it gives over bags of the columns `ITB`.
+const KINDS: &str = "scalar,Y|0 0 2 => scalar I\n\
+    read,X,BI|1 0 1 => BI\n\
+    map,cYX|2 1 2 => BIT\n\
+    filter,c|3 1 0 => ITB\n\
+    range,Y,a|4 1 2 => ITBI\n\
+    join,ab,ab|5 2 0 => ITBITB\n\
+    reduce,cb,max,b|6 1 0 => BTT\n\
+    union|7 2 0 => ITB\n\
+    distinct|8 1 0 => ITB\n\
+    only|9 1 0 => WrongType\n\
+    count|10 1 0 => scalar I\n\
+    sum,a|11 1 0 => scalar I\n\
+    row,IXT|12 0 1 => ITT\n\
+    empty,TT|13 0 0 => TT\n\
+    write,X|14 1 1 => \n\
+    copy|15 1 0 => ITB";
 
-fn expect_kind(rt: &(impl Abort + AllocGlobal), kind: u8, form: Form, inputs: u16, captures: u32) {
-    let spec = spec_of(rt, form);
-    assert_eq!(rt; spec.kind(), kind);
-    assert_eq!(rt; spec.bag_inputs(), inputs);
-    assert_eq!(rt; spec.captures(), captures);
+/// The number of an operator's kind, how many bags it takes and what it captures.
+fn numbers(rt: &(impl Abort + AllocGlobal), spec: &OpSpec) -> String {
+    let kind = spec.kind();
+    let inputs = spec.bag_inputs();
+    let captures = spec.captures();
+    format!(in rt.alloc(); "{kind} {inputs} {captures}").expect(rt, "memory")
+}
+
+fn expect_kind(rt: &(impl Abort + AllocGlobal), row: &str) {
+    let case = part(row, " => ", 0);
+    let spec = spec_of(rt, part(case, "|", 0));
+    assert_eq!(rt; numbers(rt, &spec).as_str(), part(case, "|", 1));
     expect_copy(rt, &spec);
+    drop(spec);
 }
 
 #[test]
 fn each_kind_has_its_number_inputs_captures_and_copy(rt: HostRuntime) {
-    for kind in 0..16u8 {
-        let (form, inputs, captures, _) = KINDS[usize::from(kind)];
-        expect_kind(&rt, kind, form, inputs, captures);
+    for row in KINDS.lines() {
+        expect_kind(&rt, row);
     }
-    expect_copy(&rt, &words(&rt, b'c', "; "));
+    let words = words(&rt, b'c', "; ");
+    expect_copy(&rt, &words);
+    drop(words);
+}
+
+fn expect_limit(rt: &(impl Abort + AllocGlobal), row: &str) {
+    let form = part(row, "|", 0);
+    let due = part(row, " => ", 1);
+    expect_case(rt, form, "|ITB|ITB|TI", due);
+    expect_case(rt, form, "|ITB|ITB|TIIIIIIIIIIIIIII", due);
+    expect_case(rt, form, "|ITB|ITB|TIIIIIIIIIIIIIIII", "TooLarge");
 }
 
 #[test]
 fn more_than_16_captured_scalars_are_refused_first(rt: HostRuntime) {
-    for (form, _, _, due) in KINDS {
-        expect_case(&rt, (form, "ITB", "ITB", "TI", due));
-        expect_case(&rt, (form, "ITB", "ITB", "TIIIIIIIIIIIIIII", due));
-        expect_case(&rt, (form, "ITB", "ITB", "TIIIIIIIIIIIIIIII", "TooLarge"));
+    for row in KINDS.lines() {
+        expect_limit(&rt, row);
     }
-    let wide = Form::Row("ZZZZZZZZZZZZZZZZZ");
-    expect_case(&rt, (wide, "", "", "", "TooManyColumns"));
-    expect_case(&rt, (wide, "", "", "IIIIIIIIIIIIIIIII", "TooLarge"));
+    let wide = "row,ZZZZZZZZZZZZZZZZZ";
+    expect_case(&rt, wide, "", "TooManyColumns");
+    expect_case(&rt, wide, "|||IIIIIIIIIIIIIIIII", "TooLarge");
 }
 
-const OF_EXPRESSIONS: [Case; 22] = [
-    (Form::Map(""), "ITB", "", "", ""),
-    (Form::Map("ba"), "ITB", "", "", "TI"),
-    (Form::Map("aaIXY"), "ITB", "", "TB", "IIITB"),
-    (Form::Map("d"), "ITB", "", "", "WrongType"),
-    (Form::Map("abd"), "ITB", "", "", "WrongType"),
-    (Form::Map("X"), "ITB", "", "", "WrongType"),
-    (Form::Map("YX"), "ITB", "", "T", "WrongType"),
-    (
-        Form::Map("aaaaaaaaaaaaaaaa"),
-        "I",
-        "",
-        "",
-        "IIIIIIIIIIIIIIII",
-    ),
-    (
-        Form::Map("aaaaaaaaaaaaaaaaa"),
-        "I",
-        "",
-        "",
-        "TooManyColumns",
-    ),
-    (Form::Row("ITBX"), "", "", "B", "ITBB"),
-    (Form::Row("a"), "", "", "I", "WrongType"),
-    (Form::Row("IX"), "", "", "", "WrongType"),
-    (
-        Form::Row("IIIIIIIIIIIIIIII"),
-        "",
-        "",
-        "",
-        "IIIIIIIIIIIIIIII",
-    ),
-    (Form::Row("IIIIIIIIIIIIIIIIa"), "", "", "", "TooManyColumns"),
-    (Form::Scalar(b'B'), "", "", "", "scalar B"),
-    (Form::Scalar(b'Y'), "", "", "IT", "scalar T"),
-    (Form::Scalar(b'Y'), "", "", "I", "WrongType"),
-    (Form::Scalar(b'a'), "", "", "I", "WrongType"),
-    (Form::Filter(b'B'), "ITB", "", "", "ITB"),
-    (Form::Filter(b'X'), "ITB", "", "T", "WrongType"),
-    (Form::Filter(b'a'), "ITB", "", "", "WrongType"),
-    (Form::Filter(b'd'), "ITB", "", "", "WrongType"),
-];
+const OF_EXPRESSIONS: &str = "map,|ITB|| => \n\
+    map,ba|ITB|| => TI\n\
+    map,aaIXY|ITB||TB => IIITB\n\
+    map,d|ITB|| => WrongType\n\
+    map,abd|ITB|| => WrongType\n\
+    map,X|ITB|| => WrongType\n\
+    map,YX|ITB||T => WrongType\n\
+    map,aaaaaaaaaaaaaaaa|I|| => IIIIIIIIIIIIIIII\n\
+    map,aaaaaaaaaaaaaaaaa|I|| => TooManyColumns\n\
+    row,ITBX|||B => ITBB\n\
+    row,a|||I => WrongType\n\
+    row,IX||| => WrongType\n\
+    row,IIIIIIIIIIIIIIII||| => IIIIIIIIIIIIIIII\n\
+    row,IIIIIIIIIIIIIIIIa||| => TooManyColumns\n\
+    scalar,B||| => scalar B\n\
+    scalar,Y|||IT => scalar T\n\
+    scalar,Y|||I => WrongType\n\
+    scalar,a|||I => WrongType\n\
+    filter,B|ITB|| => ITB\n\
+    filter,X|ITB||T => WrongType\n\
+    filter,a|ITB|| => WrongType\n\
+    filter,d|ITB|| => WrongType";
 
 #[test]
 fn expressions_have_the_types_that_are_wanted(rt: HostRuntime) {
-    expect_all(&rt, OF_EXPRESSIONS.as_slice());
+    expect_all(&rt, OF_EXPRESSIONS);
 }
 
-const OF_FILES: [Case; 14] = [
-    (Form::Read(b'T', "IB"), "", "", "", "IB"),
-    (Form::Read(b'X', "T"), "", "", "T", "T"),
-    (Form::Read(b'I', "T"), "", "", "", "WrongType"),
-    (Form::Read(b'Y', "T"), "", "", "T", "WrongType"),
-    (Form::Read(b'a', "T"), "", "", "T", "WrongType"),
-    (
-        Form::Read(b'T', "TTTTTTTTTTTTTTTT"),
-        "",
-        "",
-        "",
-        "TTTTTTTTTTTTTTTT",
-    ),
-    (
-        Form::Read(b'B', "TTTTTTTTTTTTTTTTT"),
-        "",
-        "",
-        "",
-        "TooManyColumns",
-    ),
-    (Form::Empty(""), "", "", "", ""),
-    (
-        Form::Empty("TTTTTTTTTTTTTTTT"),
-        "",
-        "",
-        "",
-        "TTTTTTTTTTTTTTTT",
-    ),
-    (
-        Form::Empty("TTTTTTTTTTTTTTTTT"),
-        "",
-        "",
-        "",
-        "TooManyColumns",
-    ),
-    (Form::Write(b'T'), "TTTTTTTTTTTTTTTT", "", "", ""),
-    (Form::Write(b'X'), "I", "", "T", ""),
-    (Form::Write(b'I'), "I", "", "", "WrongType"),
-    (Form::Write(b'a'), "T", "", "", "WrongType"),
-];
+const OF_FILES: &str = "read,T,IB||| => IB\n\
+    read,X,T|||T => T\n\
+    read,I,T||| => WrongType\n\
+    read,Y,T|||T => WrongType\n\
+    read,a,T|||T => WrongType\n\
+    read,T,TTTTTTTTTTTTTTTT||| => TTTTTTTTTTTTTTTT\n\
+    read,B,TTTTTTTTTTTTTTTTT||| => TooManyColumns\n\
+    empty,||| => \n\
+    empty,TTTTTTTTTTTTTTTT||| => TTTTTTTTTTTTTTTT\n\
+    empty,TTTTTTTTTTTTTTTTT||| => TooManyColumns\n\
+    write,T|TTTTTTTTTTTTTTTT|| => \n\
+    write,X|I||T => \n\
+    write,I|I|| => WrongType\n\
+    write,a|T|| => WrongType";
 
 #[test]
 fn files_are_named_by_texts(rt: HostRuntime) {
-    expect_all(&rt, OF_FILES.as_slice());
+    expect_all(&rt, OF_FILES);
 }
 
-const OF_FLATS: [Case; 18] = [
-    (Form::Words(b'b', " "), "IT", "", "", "ITT"),
-    (Form::Words(b'T', "\0"), "I", "", "", "IT"),
-    (Form::Words(b'b', "\u{7f}"), "IT", "", "", "ITT"),
-    (Form::Words(b'b', ""), "IT", "", "", "WrongType"),
-    (Form::Words(b'b', "  "), "IT", "", "", "WrongType"),
-    (Form::Words(b'b', "\u{80}"), "IT", "", "", "WrongType"),
-    (Form::Words(b'b', "é"), "IT", "", "", "WrongType"),
-    (Form::Words(b'a', " "), "IT", "", "", "WrongType"),
-    (Form::Words(b'c', " "), "IT", "", "", "WrongType"),
-    (Form::Words(b'X', " "), "IT", "", "B", "WrongType"),
-    (Form::Range(b'I', b'a'), "IT", "", "", "ITI"),
-    (Form::Range(b'X', b'X'), "IT", "", "I", "ITI"),
-    (Form::Range(b'b', b'a'), "IT", "", "", "WrongType"),
-    (Form::Range(b'a', b'b'), "IT", "", "", "WrongType"),
-    (Form::Range(b'a', b'X'), "IT", "", "", "WrongType"),
-    (
-        Form::Range(b'I', b'a'),
-        "IIIIIIIIIIIIIII",
-        "",
-        "",
-        "IIIIIIIIIIIIIIII",
-    ),
-    (
-        Form::Range(b'I', b'a'),
-        "IIIIIIIIIIIIIIII",
-        "",
-        "",
-        "TooManyColumns",
-    ),
-    (
-        Form::Words(b'a', "ab"),
-        "IIIIIIIIIIIIIIII",
-        "",
-        "",
-        "TooManyColumns",
-    ),
-];
+const OF_FLATS: &str = "words,b, |IT|| => ITT\n\
+    words,T,\0|I|| => IT\n\
+    words,b,\u{7f}|IT|| => ITT\n\
+    words,b,|IT|| => WrongType\n\
+    words,b,  |IT|| => WrongType\n\
+    words,b,\u{80}|IT|| => WrongType\n\
+    words,b,é|IT|| => WrongType\n\
+    words,a, |IT|| => WrongType\n\
+    words,c, |IT|| => WrongType\n\
+    words,X, |IT||B => WrongType\n\
+    range,I,a|IT|| => ITI\n\
+    range,X,X|IT||I => ITI\n\
+    range,b,a|IT|| => WrongType\n\
+    range,a,b|IT|| => WrongType\n\
+    range,a,X|IT|| => WrongType\n\
+    range,I,a|IIIIIIIIIIIIIII|| => IIIIIIIIIIIIIIII\n\
+    range,I,a|IIIIIIIIIIIIIIII|| => TooManyColumns\n\
+    words,a,ab|IIIIIIIIIIIIIIII|| => TooManyColumns";
 
 #[test]
 fn words_and_ranges_add_a_column(rt: HostRuntime) {
-    expect_all(&rt, OF_FLATS.as_slice());
+    expect_all(&rt, OF_FLATS);
 }
 
-const OF_TWO_BAGS: [Case; 20] = [
-    (Form::Join("a", "a"), "IT", "IB", "", "ITIB"),
-    (Form::Join("a", "b"), "IT", "TI", "", "ITTI"),
-    (Form::Join("ab", "ba"), "IT", "TI", "", "ITTI"),
-    (Form::Join("", ""), "IT", "B", "", "ITB"),
-    (Form::Join("aa", "ab"), "IT", "IIT", "", "ITIIT"),
-    (Form::Join("a", "a"), "IT", "TI", "", "WrongType"),
-    (Form::Join("ab", "ab"), "IT", "IB", "", "WrongType"),
-    (Form::Join("a", "ab"), "IT", "IB", "", "WrongType"),
-    (Form::Join("ab", "a"), "IT", "IB", "", "WrongType"),
-    (Form::Join("c", "a"), "IT", "IB", "", "WrongType"),
-    (Form::Join("a", "c"), "IT", "IB", "", "WrongType"),
-    (Form::Join("c", "c"), "IT", "IB", "", "WrongType"),
-    (
-        Form::Join("a", "h"),
-        "IIIIIIII",
-        "TTTTTTTI",
-        "",
-        "IIIIIIIITTTTTTTI",
-    ),
-    (
-        Form::Join("a", "a"),
-        "IIIIIIIII",
-        "TTTTTTTI",
-        "",
-        "TooManyColumns",
-    ),
-    (Form::Union, "IT", "IT", "", "IT"),
-    (Form::Union, "", "", "", ""),
-    (Form::Union, "IT", "TI", "", "WrongType"),
-    (Form::Union, "IT", "I", "", "WrongType"),
-    (Form::Union, "I", "IT", "", "WrongType"),
-    (
-        Form::Union,
-        "TTTTTTTTTTTTTTTT",
-        "TTTTTTTTTTTTTTTT",
-        "",
-        "TTTTTTTTTTTTTTTT",
-    ),
-];
+const OF_TWO_BAGS: &str = "join,a,a|IT|IB| => ITIB\n\
+    join,a,b|IT|TI| => ITTI\n\
+    join,ab,ba|IT|TI| => ITTI\n\
+    join,,|IT|B| => ITB\n\
+    join,aa,ab|IT|IIT| => ITIIT\n\
+    join,a,a|IT|TI| => WrongType\n\
+    join,ab,ab|IT|IB| => WrongType\n\
+    join,a,ab|IT|IB| => WrongType\n\
+    join,ab,a|IT|IB| => WrongType\n\
+    join,c,a|IT|IB| => WrongType\n\
+    join,a,c|IT|IB| => WrongType\n\
+    join,c,c|IT|IB| => WrongType\n\
+    join,a,h|IIIIIIII|TTTTTTTI| => IIIIIIIITTTTTTTI\n\
+    join,a,a|IIIIIIIII|TTTTTTTI| => TooManyColumns\n\
+    union|IT|IT| => IT\n\
+    union||| => \n\
+    union|IT|TI| => WrongType\n\
+    union|IT|I| => WrongType\n\
+    union|I|IT| => WrongType\n\
+    union|TTTTTTTTTTTTTTTT|TTTTTTTTTTTTTTTT| => TTTTTTTTTTTTTTTT";
 
 #[test]
 fn two_bags_have_equal_keys_or_columns(rt: HostRuntime) {
-    expect_all(&rt, OF_TWO_BAGS.as_slice());
+    expect_all(&rt, OF_TWO_BAGS);
 }
 
-const OF_GROUPS: [Case; 20] = [
-    (Form::Reduce("b", Agg::Count), "ITB", "", "", "TI"),
-    (Form::Reduce("", Agg::Count), "ITB", "", "", "I"),
-    (Form::Reduce("cac", Agg::Sum(0)), "ITB", "", "", "BIBI"),
-    (Form::Reduce("b", Agg::Sum(1)), "ITB", "", "", "WrongType"),
-    (Form::Reduce("b", Agg::Sum(3)), "ITB", "", "", "WrongType"),
-    (Form::Reduce("a", Agg::Min(1)), "ITB", "", "", "IT"),
-    (Form::Reduce("a", Agg::Max(2)), "ITB", "", "", "IB"),
-    (Form::Reduce("a", Agg::Min(3)), "ITB", "", "", "WrongType"),
-    (Form::Reduce("a", Agg::Max(3)), "ITB", "", "", "WrongType"),
-    (Form::Reduce("ad", Agg::Max(0)), "ITB", "", "", "WrongType"),
-    (
-        Form::Reduce("bbbbbbbbbbbbbbb", Agg::Count),
-        "ITB",
-        "",
-        "",
-        "TTTTTTTTTTTTTTTI",
-    ),
-    (
-        Form::Reduce("bbbbbbbbbbbbbbbb", Agg::Count),
-        "ITB",
-        "",
-        "",
-        "TooManyColumns",
-    ),
-    (
-        Form::Reduce("dddddddddddddddd", Agg::Sum(3)),
-        "ITB",
-        "",
-        "",
-        "TooManyColumns",
-    ),
-    (Form::Sum(0), "ITB", "", "", "scalar I"),
-    (Form::Sum(1), "ITB", "", "", "WrongType"),
-    (Form::Sum(2), "ITB", "", "", "WrongType"),
-    (Form::Sum(3), "ITB", "", "", "WrongType"),
-    (Form::Only, "T", "", "", "scalar T"),
-    (Form::Only, "", "", "", "WrongType"),
-    (Form::Only, "II", "", "", "WrongType"),
-];
+const OF_GROUPS: &str = "reduce,b,count|ITB|| => TI\n\
+    reduce,,count|ITB|| => I\n\
+    reduce,cac,sum,a|ITB|| => BIBI\n\
+    reduce,b,sum,b|ITB|| => WrongType\n\
+    reduce,b,sum,d|ITB|| => WrongType\n\
+    reduce,a,min,b|ITB|| => IT\n\
+    reduce,a,max,c|ITB|| => IB\n\
+    reduce,a,min,d|ITB|| => WrongType\n\
+    reduce,a,max,d|ITB|| => WrongType\n\
+    reduce,ad,max,a|ITB|| => WrongType\n\
+    reduce,bbbbbbbbbbbbbbb,count|ITB|| => TTTTTTTTTTTTTTTI\n\
+    reduce,bbbbbbbbbbbbbbbb,count|ITB|| => TooManyColumns\n\
+    reduce,dddddddddddddddd,sum,d|ITB|| => TooManyColumns\n\
+    sum,a|ITB|| => scalar I\n\
+    sum,b|ITB|| => WrongType\n\
+    sum,c|ITB|| => WrongType\n\
+    sum,d|ITB|| => WrongType\n\
+    only|T|| => scalar T\n\
+    only||| => WrongType\n\
+    only|II|| => WrongType";
 
 #[test]
 fn groups_and_totals_are_typed(rt: HostRuntime) {
-    expect_all(&rt, OF_GROUPS.as_slice());
+    expect_all(&rt, OF_GROUPS);
 }
 
 /// An operator over a scalar of an integer.
-fn expect_over_scalar(rt: &(impl Abort + AllocGlobal), form: Form, due: &str) {
+fn expect_over_scalar(rt: &(impl Abort + AllocGlobal), form: &str, due: &str) {
     let scalar = VarType {
         scalar: true,
         cols: column_types(rt, "I"),
     };
     let bag = scalar.copy(rt.alloc()).expect(rt, "memory");
-    expect_type(rt, &spec_of(rt, form), &[bag], "", due);
+    let spec = spec_of(rt, form);
+    expect_type(rt, &spec, &[bag], "", due);
+    drop(spec);
 }
 
 #[test]
 fn a_scalar_is_a_bag_of_one_row(rt: HostRuntime) {
-    for (form, due) in [
-        (Form::Map("aa"), "II"),
-        (Form::Distinct, "I"),
-        (Form::Only, "scalar I"),
-        (Form::Count, "scalar I"),
-        (Form::Copy, "scalar I"),
-    ] {
-        expect_over_scalar(&rt, form, due);
+    let rows = "map,aa => II\n\
+                distinct => I\n\
+                only => scalar I\n\
+                count => scalar I\n\
+                copy => scalar I";
+    for row in rows.lines() {
+        expect_over_scalar(&rt, part(row, " => ", 0), part(row, " => ", 1));
     }
 }
