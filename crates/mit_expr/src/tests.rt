@@ -110,91 +110,119 @@ fn expect_due(rt: &(impl Abort + AllocGlobal), expr: Expr, due: Due<'_>) {
         is_due(&outcome, due),
         "{expr:?} is {outcome:?} and not {due:?}"
     );
+    drop(outcome);
+    drop(expr);
+}
+
+/// The part of a row that has this number, from 0, where this stands between parts; where there is none, the empty text.
+fn part<'a>(row: &'a str, between: &str, number: usize) -> &'a str {
+    row.split(between).nth(number).unwrap_or("")
+}
+
+/// What stands behind the arrow of a row: a number, or a fault.
+fn due_of(words: &str) -> Due<'_> {
+    match words {
+        "overflow" => Due::Fault(EvalFault::Overflow),
+        "no divisor" => Due::Fault(EvalFault::DivideByZero),
+        "no number" => Due::Fault(EvalFault::NotNumber),
+        _ => match words.parse() {
+            Ok(number) => Due::Int(number),
+            Err(_) => Due::Text(words),
+        },
+    }
+}
+
+fn operator(sign: &str) -> BinOp {
+    match sign {
+        "+" => BinOp::Add,
+        "-" => BinOp::Sub,
+        "*" => BinOp::Mul,
+        "/" => BinOp::Div,
+        _ => BinOp::Rem,
+    }
+}
+
+/// An operator between two numbers, and behind an arrow what it gives.
+fn expect_number(rt: &(impl Abort + AllocGlobal), row: &str) {
+    let left = part(row, " ", 0).parse().expect(rt, "a number");
+    let right = part(row, " ", 2).parse().expect(rt, "a number");
+    let expr = bin(rt, int(left), operator(part(row, " ", 1)), int(right));
+    expect_due(rt, expr, due_of(part(row, " => ", 1)));
 }
 
 #[test]
 fn numbers_are_exact_within_64_bits(rt: HostRuntime) {
-    let over = Due::Fault(EvalFault::Overflow);
-    let no_divisor = Due::Fault(EvalFault::DivideByZero);
-    let cases: [(i64, BinOp, i64, Due<'_>); 36] = [
-        (i64::MAX, BinOp::Add, 0, Due::Int(i64::MAX)),
-        (i64::MAX, BinOp::Add, 1, over),
-        (i64::MIN, BinOp::Add, -1, over),
-        (i64::MIN, BinOp::Add, i64::MAX, Due::Int(-1)),
-        (i64::MIN, BinOp::Sub, 0, Due::Int(i64::MIN)),
-        (i64::MIN, BinOp::Sub, 1, over),
-        (i64::MAX, BinOp::Sub, -1, over),
-        (0, BinOp::Sub, i64::MIN, over),
-        (-1, BinOp::Sub, i64::MIN, Due::Int(i64::MAX)),
-        (i64::MIN, BinOp::Mul, 1, Due::Int(i64::MIN)),
-        (i64::MIN, BinOp::Mul, -1, over),
-        (
-            i64::MAX,
-            BinOp::Mul,
-            -1,
-            Due::Int(-9_223_372_036_854_775_807),
-        ),
-        (i64::MAX, BinOp::Mul, 2, over),
-        (
-            -4_294_967_296,
-            BinOp::Mul,
-            2_147_483_648,
-            Due::Int(i64::MIN),
-        ),
-        (4_294_967_296, BinOp::Mul, 2_147_483_648, over),
-        (i64::MIN, BinOp::Mul, 0, Due::Int(0)),
-        (7, BinOp::Div, -2, Due::Int(-3)),
-        (-7, BinOp::Div, 2, Due::Int(-3)),
-        (-7, BinOp::Div, -2, Due::Int(3)),
-        (i64::MIN, BinOp::Div, -1, over),
-        (i64::MIN, BinOp::Div, 1, Due::Int(i64::MIN)),
-        (
-            i64::MAX,
-            BinOp::Div,
-            -1,
-            Due::Int(-9_223_372_036_854_775_807),
-        ),
-        (i64::MAX, BinOp::Div, i64::MIN, Due::Int(0)),
-        (0, BinOp::Div, 0, no_divisor),
-        (i64::MIN, BinOp::Div, 0, no_divisor),
-        (7, BinOp::Rem, -2, Due::Int(1)),
-        (-7, BinOp::Rem, 2, Due::Int(-1)),
-        (-7, BinOp::Rem, -2, Due::Int(-1)),
-        (i64::MIN, BinOp::Rem, -1, over),
-        (i64::MAX, BinOp::Rem, -1, Due::Int(0)),
-        (i64::MIN, BinOp::Rem, 10, Due::Int(-8)),
-        (i64::MAX, BinOp::Rem, i64::MIN, Due::Int(i64::MAX)),
-        (i64::MIN, BinOp::Rem, i64::MAX, Due::Int(-1)),
-        (i64::MIN, BinOp::Rem, i64::MIN, Due::Int(0)),
-        (0, BinOp::Rem, 0, no_divisor),
-        (i64::MIN, BinOp::Rem, 0, no_divisor),
-    ];
-    for (left, op, right, due) in cases {
-        expect_due(&rt, bin(&rt, int(left), op, int(right)), due);
+    let rows = "9223372036854775807 + 0 => 9223372036854775807\n\
+                9223372036854775807 + 1 => overflow\n\
+                -9223372036854775808 + -1 => overflow\n\
+                -9223372036854775808 + 9223372036854775807 => -1\n\
+                -9223372036854775808 - 0 => -9223372036854775808\n\
+                -9223372036854775808 - 1 => overflow\n\
+                9223372036854775807 - -1 => overflow\n\
+                0 - -9223372036854775808 => overflow\n\
+                -1 - -9223372036854775808 => 9223372036854775807\n\
+                -9223372036854775808 * 1 => -9223372036854775808\n\
+                -9223372036854775808 * -1 => overflow\n\
+                9223372036854775807 * -1 => -9223372036854775807\n\
+                9223372036854775807 * 2 => overflow\n\
+                -4294967296 * 2147483648 => -9223372036854775808\n\
+                4294967296 * 2147483648 => overflow\n\
+                -9223372036854775808 * 0 => 0\n\
+                7 / -2 => -3\n\
+                -7 / 2 => -3\n\
+                -7 / -2 => 3\n\
+                -9223372036854775808 / -1 => overflow\n\
+                -9223372036854775808 / 1 => -9223372036854775808\n\
+                9223372036854775807 / -1 => -9223372036854775807\n\
+                9223372036854775807 / -9223372036854775808 => 0\n\
+                0 / 0 => no divisor\n\
+                -9223372036854775808 / 0 => no divisor\n\
+                7 % -2 => 1\n\
+                -7 % 2 => -1\n\
+                -7 % -2 => -1\n\
+                -9223372036854775808 % -1 => overflow\n\
+                9223372036854775807 % -1 => 0\n\
+                -9223372036854775808 % 10 => -8\n\
+                9223372036854775807 % -9223372036854775808 => 9223372036854775807\n\
+                -9223372036854775808 % 9223372036854775807 => -1\n\
+                -9223372036854775808 % -9223372036854775808 => 0\n\
+                0 % 0 => no divisor\n\
+                -9223372036854775808 % 0 => no divisor";
+    for row in rows.lines() {
+        expect_number(&rt, row);
     }
+}
+
+/// A function of a text, in parentheses without its quotes, and behind an arrow what it gives.
+fn expect_of_text(rt: &(impl Abort + AllocGlobal), row: &str) {
+    let (name, rest) = row.split_once('(').unwrap_or(("", ""));
+    let (words, due) = rest.split_once(") => ").unwrap_or(("", ""));
+    let function = if name == "len" {
+        Call::Len
+    } else {
+        Call::ToInt
+    };
+    expect_due(rt, call(rt, function, text(rt, words)), due_of(due));
 }
 
 #[test]
 fn texts_are_read_as_numbers_and_measured(rt: HostRuntime) {
-    let no_number = Due::Fault(EvalFault::NotNumber);
-    let of_texts: [(Call, &str, Due<'_>); 14] = [
-        (Call::ToInt, "", no_number),
-        (Call::ToInt, "-", no_number),
-        (Call::ToInt, "+1", no_number),
-        (Call::ToInt, " 1", no_number),
-        (Call::ToInt, "1-", no_number),
-        (Call::ToInt, "007", Due::Int(7)),
-        (Call::ToInt, "-007", Due::Int(-7)),
-        (Call::ToInt, "9223372036854775807", Due::Int(i64::MAX)),
-        (Call::ToInt, "9223372036854775808", no_number),
-        (Call::ToInt, "-9223372036854775808", Due::Int(i64::MIN)),
-        (Call::ToInt, "-9223372036854775809", no_number),
-        (Call::Len, "", Due::Int(0)),
-        (Call::Len, "abc", Due::Int(3)),
-        (Call::Len, "é", Due::Int(2)),
-    ];
-    for (function, words, due) in of_texts {
-        expect_due(&rt, call(&rt, function, text(&rt, words)), due);
+    let rows = "int() => no number\n\
+                int(-) => no number\n\
+                int(+1) => no number\n\
+                int( 1) => no number\n\
+                int(1-) => no number\n\
+                int(007) => 7\n\
+                int(-007) => -7\n\
+                int(9223372036854775807) => 9223372036854775807\n\
+                int(9223372036854775808) => no number\n\
+                int(-9223372036854775808) => -9223372036854775808\n\
+                int(-9223372036854775809) => no number\n\
+                len() => 0\n\
+                len(abc) => 3\n\
+                len(é) => 2";
+    for row in rows.lines() {
+        expect_of_text(&rt, row);
     }
 }
 
@@ -310,6 +338,8 @@ fn expect_comparisons(rt: &(impl Abort + AllocGlobal), left: Expr, right: Expr, 
         let right = right.copy(rt.alloc()).expect(rt, "memory");
         expect_due(rt, bin(rt, left, *op, right), Due::Bool(*due));
     }
+    drop(left);
+    drop(right);
 }
 
 #[test]
@@ -375,15 +405,20 @@ fn expect_signature(
     }
 }
 
+/// An expression that reads beyond its column and its captured scalar.
+fn expect_no_type(rt: &(impl Abort + AllocGlobal), beyond: Expr) {
+    expect_type(rt, &beyond, ColType::Bool, ColType::Bool, None);
+    drop(beyond);
+}
+
 #[test]
 fn operators_take_their_types_alone(rt: HostRuntime) {
     for (op, operands, gives) in SIGNATURES {
         let expr = bin(&rt, Expr::Column(0), op, Expr::Capture(0));
         expect_signature(&rt, &expr, operands, gives);
-        let beyond = bin(&rt, Expr::Column(0), op, Expr::Capture(1));
-        expect_type(&rt, &beyond, ColType::Bool, ColType::Bool, None);
-        let beyond = bin(&rt, Expr::Column(1), op, Expr::Capture(0));
-        expect_type(&rt, &beyond, ColType::Bool, ColType::Bool, None);
+        drop(expr);
+        expect_no_type(&rt, bin(&rt, Expr::Column(0), op, Expr::Capture(1)));
+        expect_no_type(&rt, bin(&rt, Expr::Column(1), op, Expr::Capture(0)));
     }
 }
 
@@ -393,6 +428,7 @@ fn expect_function(rt: &(impl Abort + AllocGlobal), expr: Expr, wanted: ColType,
         let due = if is == wanted { Some(gives) } else { None };
         expect_type(rt, &expr, is, is, due);
     }
+    drop(expr);
 }
 
 #[test]
