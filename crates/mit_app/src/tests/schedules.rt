@@ -1,9 +1,9 @@
+use super::world::{files_with, published, told};
 use crate::call::attempt;
 use crate::lines::refusal;
 use mit_engine::{Pick, Schedule, Seeded};
-use mit_world::{Files, MemConsole, MemFolder, MemOutbox};
+use mit_world::{MemConsole, MemFolder, MemOutbox};
 use std::alloc::{AllocError, Global};
-use std::fmt::Write;
 use std::marker::Model;
 use std::process::Abort;
 use std::test::Fail;
@@ -74,35 +74,27 @@ struct Left {
 
 /// Runs a script under this schedule, over the files `in`, of two rows, `pairs`, of one, and `bad`, of none that fits.
 fn run_under<S: Schedule>(alloc: Global, script: &[u8], schedule: &mut S) -> Result<Left, Fail> {
-    let mut files = Files::new(alloc);
-    files.put("s", script)?;
-    files.put("in", b"2\n1\n")?;
-    files.put("pairs", b"1,2\n")?;
+    let mut files = files_with(alloc, script)?;
     files.put("bad", b"x\n")?;
     let mut folder = MemFolder::new(files, Vec::new(alloc));
     let mut outbox = MemOutbox::new(alloc, Vec::new(alloc));
     let mut console = MemConsole::new(alloc, Vec::new(alloc));
-    let (status, line) = match attempt(
-        alloc,
-        "s",
-        schedule,
-        &mut folder,
-        &mut outbox,
-        &mut console,
-    ) {
-        Ok(()) => (
-            0,
-            String::from_str(alloc, str::from_utf8(console.bytes())?)?,
-        ),
-        Err(refused) => (refused.status(), refusal(alloc, "s", &refused)?),
-    };
-    let mut shown = line;
-    if let Some(published) = outbox.published() {
-        for place in 0..published.len() {
-            let bytes = str::from_utf8(published.bytes_at(place))?;
-            write!(shown, "{}={bytes}", published.name_at(place))?;
-        }
-    }
+    let end = end_of(alloc, schedule, &mut folder, &mut outbox, &mut console);
+    let left = left_by(alloc, end, &outbox);
+    drop(console);
+    drop(outbox);
+    drop(folder);
+    left
+}
+
+/// What stands in the outbox behind an end.
+fn left_by(
+    alloc: Global,
+    end: Result<(u8, String), Fail>,
+    outbox: &MemOutbox,
+) -> Result<Left, Fail> {
+    let (status, mut shown) = end?;
+    shown.push_str(published(alloc, outbox)?.as_deref().unwrap_or(""))?;
     Ok(Left {
         status,
         shown,
@@ -110,18 +102,45 @@ fn run_under<S: Schedule>(alloc: Global, script: &[u8], schedule: &mut S) -> Res
     })
 }
 
-/// A run of this script leaves this under the seeds 0 to 9, and where always the first, the last or the middle entry of
-/// the offer is taken.
-fn leaves_always(rt: &impl Abort, alloc: Global, script: &[u8], shown: &str) -> Result<(), Fail> {
+/// The status of a run of the script `s`, and what the console has gained, or else the line that tells why nothing is
+/// published.
+fn end_of<S: Schedule>(
+    alloc: Global,
+    schedule: &mut S,
+    folder: &mut MemFolder,
+    outbox: &mut MemOutbox,
+    console: &mut MemConsole,
+) -> Result<(u8, String), Fail> {
+    match attempt(alloc, "s", schedule, folder, outbox, console) {
+        Ok(()) => Ok((0, told(alloc, console)?)),
+        Err(refused) => {
+            let status = refused.status();
+            let line = refusal(alloc, "s", &refused);
+            drop(refused);
+            Ok((status, line?))
+        }
+    }
+}
+
+/// A run of this script under this schedule leaves this.
+fn leaves<S: Schedule>(
+    rt: &(impl Abort + AllocGlobal),
+    script: &[u8],
+    schedule: &mut S,
+    shown: &str,
+) -> Result<(), Fail> {
+    let left = run_under(rt.alloc(), script, schedule)?;
+    assert_eq!(rt; left.shown.as_str(), shown);
+    Ok(())
+}
+
+/// The same under the seeds 0 to 9, and where always the first, the last or the middle entry of the offer is taken.
+fn leaves_always(rt: &(impl Abort + AllocGlobal), script: &[u8], shown: &str) -> Result<(), Fail> {
     for seed in 0..10 {
-        let mut schedule = Seeded::new(alloc, seed);
-        let left = run_under(alloc, script, &mut schedule)?;
-        assert_eq!(rt; left.shown.as_str(), shown);
+        leaves(rt, script, &mut Seeded::new(rt.alloc(), seed), shown)?;
     }
     for end in ENDS {
-        let mut schedule = Steady::new(alloc, end, 0);
-        let left = run_under(alloc, script, &mut schedule)?;
-        assert_eq!(rt; left.shown.as_str(), shown);
+        leaves(rt, script, &mut Steady::new(rt.alloc(), end, 0), shown)?;
     }
     Ok(())
 }
@@ -155,16 +174,13 @@ const TWENTY: &[u8] = b"
 
 #[test]
 fn the_order_of_delivery_changes_no_file(rt: HostRuntime) -> Result<(), Fail> {
-    let alloc = rt.alloc();
     leaves_always(
         &rt,
-        alloc,
         TWICE,
         "files 1, blocks 1, actions 10\nout=1\n1\n2\n2\n",
     )?;
     leaves_always(
         &rt,
-        alloc,
         TWENTY,
         "files 5, blocks 1, actions 67\ne=1\n1\n1\n1\n1\n1\n2\n2\n2\n2\n2\n2\nf=1\n2\nh=1\n1\n1\n1\n1\n1\n1\n1\n1\n1\n\
          2\n2\n2\n2\n2\n2\n2\n2\n2\n2\nout=1\n1\n2\n2\np=1,2\n1,2\n1,2\n1,2\n",
@@ -178,25 +194,32 @@ fn the_first_fault_in_the_text_is_told_whatever_is_heard_first(
 ) -> Result<(), Fail> {
     leaves_always(
         &rt,
-        rt.alloc(),
         b"a = read \"in\" (int); b = read \"none\" (int); c = read \"bad\" (int); write a to \"out\";",
         "fault: statement 2, decisions 0, no such file\n",
     )
 }
 
+/// A run whose pick of this number finds no memory ends at this status, after so many calls of the outbox.
+fn ends_without_memory(
+    rt: &(impl Abort + AllocGlobal),
+    fails: u64,
+    status: u8,
+    outbox_calls: u64,
+) -> Result<Left, Fail> {
+    let mut schedule = Steady::new(rt.alloc(), End::Middle, fails);
+    let left = run_under(rt.alloc(), TWICE, &mut schedule)?;
+    assert_eq!(rt; left.status, status);
+    assert_eq!(rt; left.outbox_calls, outbox_calls);
+    Ok(left)
+}
+
 // The picks of a job of ten actions find no memory in turn; the eleventh never comes.
 #[test]
 fn want_of_memory_in_a_pick_publishes_nothing(rt: HostRuntime) -> Result<(), Fail> {
-    let alloc = rt.alloc();
-    for fails in 1..12 {
-        let mut schedule = Steady::new(alloc, End::Middle, fails);
-        let left = run_under(alloc, TWICE, &mut schedule)?;
-        if fails < 11 {
-            assert_eq!(rt; (left.status, left.outbox_calls), (7, 0));
-            assert_eq!(rt; left.shown.as_str(), "out of memory\n");
-        } else {
-            assert_eq!(rt; (left.status, left.outbox_calls), (0, 2));
-        }
+    for fails in 1..11 {
+        let left = ends_without_memory(&rt, fails, 7, 0)?;
+        assert_eq!(rt; left.shown.as_str(), "out of memory\n");
     }
+    ends_without_memory(&rt, 11, 0, 2)?;
     Ok(())
 }

@@ -93,6 +93,7 @@ fn reads_unions_and_writes_are_steps(rt: HostRuntime) {
         .expect(&rt, "memory");
     let script = script(&rt, body);
     assert_eq!(rt; steps(&rt, &script).as_str(), "0=in:16 1=0+0 out=1 ");
+    drop(script);
 }
 
 /// Whether a script of a read and this statement has no steps.
@@ -101,7 +102,10 @@ fn has_no_steps(rt: &(impl Abort + AllocGlobal), other: Stmt) -> bool {
     body.push(read(rt, literal(rt, "in"), ColType::Int, 1))
         .expect(rt, "memory");
     body.push(other).expect(rt, "memory");
-    steps(rt, &script(rt, body)).is_empty()
+    let script = script(rt, body);
+    let steps = steps(rt, &script);
+    drop(script);
+    steps.is_empty()
 }
 
 #[test]
