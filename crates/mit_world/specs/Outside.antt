@@ -9,7 +9,7 @@ use Rattle.mit_world.specs.declared.outside.OutsideStop.TheVariants.{Failed, NoM
 abbrev pub Rose : ℕ → ℕ → Type 0
 Rose before now = min (before + 1) (2 ^ 64 - 1) ≤ now
 
--- a fact that comes with a failed call; want of memory says nothing
+-- a fact that comes with a failed call; where memory ran out, nothing is said
 abbrev pub IfFailed : OutsideStop → Type 0 → Type 0
 IfFailed Failed fact = fact
 IfFailed NoMemory fact = ⊤

@@ -1,24 +1,16 @@
-ghost use Rattle.std.specs.Prelude.{◌≡◌, ◌<◌, IsTrue, option_map, slice_get};
-ghost use Rattle.std.specs.Prelude.{IfOk, IfErr, OnOk, OnErr};
+ghost use Rattle.std.specs.Prelude.{◌≡◌, ◌<◌, option_map, slice_get, IfOk, OnOk, OnErr};
 ghost use Rattle.std.specs.FinMap as map;
-ghost use Rattle.std.specs.FinMap.{is_sorted};
-ghost use Rattle.mit_world.specs.Files.{name_cmp};
-ghost use Rattle.mit_world.specs.Entries.{name_and_bytes, named, IsNamedAt, IsGapFor};
+ghost use Rattle.std.specs.Iterator.{YieldsFirstBy, item_count};
 
 use std::alloc::{AllocError, Global};
+use std::collections::{BTreeMap, btree_map};
 use std::marker::Model;
 
 /// Files by their names, in rising order of names, which contracts see as a finite map.
 #[derive(Drop)]
 pub struct Files {
-    // sorted by name, each name once
-    entries: Vec<Entry>,
-}
-
-#[derive(Drop)]
-struct Entry {
-    name: String,
-    bytes: Vec<u8>,
+    entries: BTreeMap<String, Vec<u8>>,
+    alloc: Global,
 }
 
 impl Model for Files {
@@ -33,9 +25,9 @@ impl Model for Files {
 
     ghost coded = { map.code (coded_list coded_ℕ) (coded_list coded_ℕ) };
 
-    ghost view = { λ a. map.from_sorted (named a.entries.items) };
+    ghost view = { λ a. map.from_sorted (named a.entries.entries) };
 
-    ghost invariant = { λ a. IsTrue (is_sorted name_cmp (named a.entries.items)) };
+    ghost invariant = { λ a. IsTrue (is_sorted name_cmp (named a.entries.entries)) };
 }
 
 impl Files {
@@ -44,7 +36,8 @@ impl Files {
         ensures { result ≡ map.empty }
     {
         Files {
-            entries: Vec::new(alloc),
+            entries: BTreeMap::new(alloc),
+            alloc,
         }
     }
 
@@ -53,27 +46,27 @@ impl Files {
         ensures ok { OnOk result (self.new ≡ map.insert self.old name.now bytes.now) }
         ensures err { OnErr result (self.new ≡ self.old) }
     {
-        let alloc = *self.entries.allocator();
-        let bytes = Vec::from_slice(alloc, bytes)?;
-        match search(&self.entries, name) {
-            Ok(place) => {
-                self.entries[place].bytes = bytes;
-                Ok(())
-            }
-            Err(place) => {
-                let name = String::from_str(alloc, name)?;
-                Ok(self.entries.insert(place, Entry { name, bytes })?)
-            }
-        }
+        let bytes = Vec::from_slice(self.alloc, bytes)?;
+        self.put_owned(name, bytes)
+    }
+
+    /// Adds the file of this name, or replaces it, and takes its bytes without a copy.
+    pub fn put_owned(&mut self, name: &str, bytes: Vec<u8>) -> Result<(), AllocError>
+        ensures ok { OnOk result (self.new ≡ map.insert self.old name.now bytes.items) }
+        ensures err { OnErr result (self.new ≡ self.old) }
+    {
+        let name = String::from_str(self.alloc, name)?;
+        self.entries.insert(name, bytes)?;
+        Ok(())
     }
 
     /// The bytes of the file of this name, or none where there is no such file.
     pub fn get(&self, name: &str) -> Option<&[u8]>
         ensures { option_map (λ bytes. bytes.now) result ≡ map.get self.now name.now }
     {
-        match search(&self.entries, name) {
-            Ok(place) => Some(self.entries[place].bytes.as_slice()),
-            Err(_) => None,
+        match self.entries.get(name) {
+            Some(bytes) => Some(bytes.as_slice()),
+            None => None,
         }
     }
 
@@ -84,20 +77,40 @@ impl Files {
         self.entries.len() as u64
     }
 
-    /// The name of the file at place `k` in rising order of names, from 0.
+    /// The files in rising order of names, each as its name and its bytes.
+    pub fn iter(&self) -> FilesIter<'_>
+        ensures { result ≡ map.entries self.now }
+    {
+        FilesIter {
+            left: self.entries.iter(),
+        }
+    }
+
+    /// The name of the file at place `k` in rising order of names, from 0. It passes over the files before; a loop over
+    /// all files takes `iter`.
     pub fn name_at(&self, k: u64) -> &str
         requires { k < map.len self.now }
         ensures { slice_get (map.keys self.now) k ≡ Some result.now }
     {
-        self.entries[k as usize].name.as_str()
+        let (name, _) = self.file_at(k);
+        name
     }
 
-    /// The bytes of the file at place `k` in rising order of names, from 0.
+    /// The bytes of the file at place `k` in rising order of names, from 0. It passes over the files before; a loop
+    /// over all files takes `iter`.
     pub fn bytes_at(&self, k: u64) -> &[u8]
         requires { k < map.len self.now }
         ensures { slice_get (map.values self.now) k ≡ Some result.now }
     {
-        self.entries[k as usize].bytes.as_slice()
+        let (_, bytes) = self.file_at(k);
+        bytes
+    }
+
+    fn file_at(&self, k: u64) -> (&str, &[u8])
+        requires { k < map.len self.now }
+        ensures { slice_get (map.entries self.now) k ≡ Some (result.0.now, result.1.now) }
+    {
+        self.iter().nth(k as usize).unwrap()
     }
 
     /// The same files once more.
@@ -105,38 +118,39 @@ impl Files {
         ensures { IfOk result (λ other. other ≡ self.now) }
     {
         Ok(Files {
-            entries: copy_entries(&self.entries, alloc)?,
+            entries: self.entries.clone()?,
+            alloc,
         })
     }
 }
 
-impl Entry {
-    fn copy(&self, alloc: Global) -> Result<Entry, AllocError>
-        ensures { IfOk result (λ other. name_and_bytes other ≡ name_and_bytes self.now) }
-    {
-        Ok(Entry {
-            name: String::from_str(alloc, self.name.as_str())?,
-            bytes: Vec::from_slice(alloc, self.bytes.as_slice())?,
-        })
-    }
+/// The files that are left of those that `Files::iter` goes over, which contracts see as the list of their names and
+/// bytes.
+#[derive(Drop)]
+pub struct FilesIter<'a> {
+    left: btree_map::Iter<'a, String, Vec<u8>>,
 }
 
-// Where the name is, or where it would go.
-fn search(entries: &[Entry], name: &str) -> Result<usize, usize>
-    requires { IsTrue (is_sorted name_cmp (named entries.now)) }
-    ensures found { IfOk result (IsNamedAt entries.now name.now) }
-    ensures absent { IfErr result (IsGapFor entries.now name.now) }
-{
-    entries.binary_search_by(|entry| entry.name.as_str().cmp(name))
+impl<'a> Model for FilesIter<'a> {
+    ghost use Rattle.std.specs.Prelude.{ℕ, List};
+    ghost use Rattle.mit_world.specs.Entries.{named};
+
+    ghost Value = { List (List ℕ × List ℕ) };
+
+    ghost view = { λ a. named a.left };
 }
 
-fn copy_entries(entries: &[Entry], alloc: Global) -> Result<Vec<Entry>, AllocError>
-    ensures { IfOk result (λ others. named others.items ≡ named entries.now) }
-{
-    let mut copied = Vec::with_capacity(alloc, entries.len())?;
-    for entry in entries {
-        let other = entry.copy(alloc)?;
-        copied.push(other)?;
+impl<'a> Iterator for FilesIter<'a> {
+    type Item = (&'a str, &'a [u8]);
+
+    ghost next_gives = { YieldsFirstBy (λ file. (file.0.now, file.1.now)) (λ left. left) };
+
+    ghost remaining = { item_count (λ left. left) };
+
+    fn next(&mut self) -> Option<(&'a str, &'a [u8])> {
+        match self.left.next() {
+            Some((name, bytes)) => Some((name.as_str(), bytes.as_slice())),
+            None => None,
+        }
     }
-    Ok(copied)
 }

@@ -1,11 +1,12 @@
-//! The folder, the outbox and the console of the machine. What they hold is not told.
+//! The folder, the outbox and the console of the machine. What they hold is not told. A call that fails says on standard
+//! error what could not be done and what the system answered.
 ghost use Rattle.std.specs.Prelude.{◌≡◌, ◌↔◌, ◌≤◌, ◌+◌, ◌-◌, ◌^◌, min, false, None, IfOk};
 ghost use Rattle.std.specs.Io.{StartsWith};
 ghost use Rattle.std.specs.IoError.{error_kind};
 ghost use Rattle.mit_world.specs.Outside.{IfFailed, Rose};
 
 use crate::outside::{Console, Folder, Outbox, OutsideStop};
-use std::fs::OpenFile;
+use std::fmt::Display;
 use std::io::{ErrorKind, Print, Read, Write};
 use std::marker::Model;
 use std::rt::Files as FileSystem;
@@ -20,7 +21,8 @@ const STAGED: &str = "mitos-staged";
 /// The folder of the files that are published.
 const PUBLISHED: &str = "mitos-out";
 
-/// The current folder.
+/// The current folder. A name that is empty, `.` or `..`, or has a `/`, and what is no regular file, is a fault before
+/// anything is opened.
 #[derive(Drop)]
 pub struct HostFolder<R> {
     rt: R,
@@ -44,14 +46,15 @@ impl<R> HostFolder<R> {
     }
 }
 
-impl<R: FileSystem> Folder for HostFolder<R> {
+impl<R: FileSystem + Eprint> Folder for HostFolder<R> {
     ghost files = { λ _. None };
 
     ghost faults = { λ s. s };
 
     fn read(&mut self, name: &str, into: &mut Vec<u8>) -> Result<bool, OutsideStop> {
         let length = into.len();
-        match append_file(&self.rt, name, into) {
+        let read = append_file(&self.rt, name, into);
+        match said(&self.rt, format_args!("read {name:?}"), read) {
             Ok(found) => Ok(found),
             Err(error) => {
                 into.truncate(length);
@@ -61,9 +64,9 @@ impl<R: FileSystem> Folder for HostFolder<R> {
     }
 }
 
-/// The folders `mitos-staged` and `mitos-out` of the current folder. The first call makes the one
-/// for the staged files, or empties it; a publish renames it, and fails where there is a published
-/// one already.
+/// The folders `mitos-staged` and `mitos-out` of the current folder. The first call makes the one for the staged files,
+/// without what stood there before; a publish renames it, and fails where there is a published one already. A name that
+/// is empty, `.` or `..`, or has a `/`, is a fault.
 #[derive(Drop)]
 pub struct HostOutbox<R> {
     rt: R,
@@ -92,20 +95,20 @@ impl<R> HostOutbox<R> {
     }
 }
 
-impl<R: FileSystem + AllocGlobal> Outbox for HostOutbox<R> {
+impl<R: FileSystem + Eprint + AllocGlobal> Outbox for HostOutbox<R> {
     ghost held = { λ _. None };
 
     ghost faults = { λ s. s };
 
     fn stage(&mut self, name: &str, bytes: &[u8]) -> Result<(), OutsideStop> {
-        match write_staged(&self.rt, &mut self.is_open, name, bytes) {
+        match stage_file(&self.rt, &mut self.is_open, name, bytes) {
             Ok(()) => Ok(()),
             Err(error) => Err(stop_of(&error, &mut self.faults)),
         }
     }
 
     fn publish(&mut self) -> Result<(), OutsideStop> {
-        match rename_staged(&self.rt, &mut self.is_open) {
+        match publish_staged(&self.rt, &mut self.is_open) {
             Ok(()) => Ok(()),
             Err(error) => Err(stop_of(&error, &mut self.faults)),
         }
@@ -136,21 +139,20 @@ impl<R> HostConsole<R> {
     }
 }
 
-impl<R: Print> Console for HostConsole<R> {
+impl<R: Print + Eprint> Console for HostConsole<R> {
     ghost written = { λ _. None };
 
     ghost faults = { λ s. s };
 
     fn put(&mut self, bytes: &[u8]) -> Result<(), OutsideStop> {
-        match print_bytes(&self.rt, bytes) {
+        match said(&self.rt, "print", print_bytes(&self.rt, bytes)) {
             Ok(()) => Ok(()),
             Err(error) => Err(stop_of(&error, &mut self.faults)),
         }
     }
 }
 
-// Why a call gave up. Each error but want of memory is counted; the count stands still at its
-// type's end.
+// Why a call gave up. Each error is counted, except where memory ran out; the count stands still at its type's end.
 fn stop_of(error: &io::Error, faults: &mut u64) -> OutsideStop
     ensures memory { result ≡ OutsideStop.NoMemory ↔ error_kind error.now ≡ ErrorKind.OutOfMemory }
     ensures failed { IfFailed result (Rose faults.old faults.new) }
@@ -163,21 +165,66 @@ fn stop_of(error: &io::Error, faults: &mut u64) -> OutsideStop
     OutsideStop::Failed
 }
 
-// Appends the file's bytes, or answers false where there is no file of this name.
+// Passes on what a step gave. Where it failed, one line on standard error says what could not be done and what the system
+// answered; where that cannot be said either, it is left.
+fn said<T, R: Eprint, D: Display + Drop>(rt: &R, task: D, done: io::Result<T>) -> io::Result<T>
+    ensures { result ≡ done }
+{
+    if let Err(error) = &done {
+        let _ = eprintln!(rt; "mitos: cannot {task}: {error}");
+    }
+    done
+}
+
+// Refuses what is no name of an entry of a folder, so that no path reaches the machine.
+fn check_name(name: &str) -> io::Result<()> {
+    if name.is_empty() || name == "." || name == ".." || name.contains('/') {
+        return Err(io::Error::new(ErrorKind::InvalidFilename, "not a file name"));
+    }
+    Ok(())
+}
+
+// Whether something of this name is there, also a link that leads nowhere.
+fn is_there<R: FileSystem>(rt: &R, name: &str) -> io::Result<bool> {
+    match fs::symlink_metadata(rt, name) {
+        Ok(_) => Ok(true),
+        Err(error) if error.kind() == ErrorKind::NotFound => Ok(false),
+        Err(error) => Err(error),
+    }
+}
+
+// How many bytes the file of this name has, or none where there is no such file. Only a regular file is ever opened: to
+// open a named pipe would wait for its other end.
+fn length_of<R: FileSystem>(rt: &R, name: &str) -> io::Result<Option<u64>> {
+    check_name(name)?;
+    let found = match fs::metadata(rt, name) {
+        Ok(found) => found,
+        Err(error) if error.kind() == ErrorKind::NotFound => return Ok(None),
+        Err(error) => return Err(error),
+    };
+    if found.is_dir() {
+        return Err(io::Error::from(ErrorKind::IsADirectory));
+    }
+    if !found.is_file() {
+        return Err(io::Error::new(ErrorKind::InvalidInput, "not a regular file"));
+    }
+    Ok(Some(found.len()))
+}
+
+// Appends the file's bytes, or answers false where there is no file of this name. One byte more than the file's length
+// is kept free, so that the read at its end needs no more room.
 fn append_file<R: FileSystem>(rt: &R, name: &str, into: &mut Vec<u8>) -> io::Result<bool>
     ensures appends { StartsWith into.new.items into.old.items }
     ensures absent { IfOk result (λ found. found ≡ false → into.new.items ≡ into.old.items) }
 {
-    let file = match fs::open(rt, name) {
-        Ok(file) => file,
-        Err(error) if error.kind() == ErrorKind::NotFound => return Ok(false),
-        Err(error) => return Err(error),
+    let Some(length) = length_of(rt, name)? else {
+        return Ok(false);
     };
-    let length = file.metadata()?.len();
     if length > LONGEST_FILE {
         return Err(io::Error::from(ErrorKind::FileTooLarge));
     }
-    into.reserve(length as usize)?;
+    let file = fs::open(rt, name)?;
+    into.reserve(length as usize + 1)?;
     let appended = file.take(LONGEST_FILE + 1).read_to_end(into)?;
     if appended as u64 > LONGEST_FILE {
         return Err(io::Error::from(ErrorKind::FileTooLarge));
@@ -186,36 +233,53 @@ fn append_file<R: FileSystem>(rt: &R, name: &str, into: &mut Vec<u8>) -> io::Res
 }
 
 // Makes the folder of the staged files, without any file, unless it is open already.
-fn open_staged<R: FileSystem + AllocGlobal>(rt: &R, is_open: &mut bool) -> io::Result<()> {
-    if *is_open {
-        return Ok(());
+fn open_staged<R: FileSystem + Eprint + AllocGlobal>(rt: &R, is_open: &mut bool) -> io::Result<()> {
+    if !*is_open {
+        said(rt, format_args!("make {STAGED:?}"), make_staged(rt))?;
+        *is_open = true;
     }
-    if fs::exists(rt, STAGED)? {
-        fs::remove_dir_all(rt, STAGED)?;
-    }
-    fs::create_dir(rt, STAGED)?;
-    *is_open = true;
     Ok(())
 }
 
-fn write_staged<R: FileSystem + AllocGlobal>(
+// A link of that name is removed, and not what it leads to.
+fn make_staged<R: FileSystem + AllocGlobal>(rt: &R) -> io::Result<()> {
+    if is_there(rt, STAGED)? {
+        fs::remove_dir_all(rt, STAGED)?;
+    }
+    fs::create_dir(rt, STAGED)
+}
+
+fn stage_file<R: FileSystem + Eprint + AllocGlobal>(
     rt: &R,
     is_open: &mut bool,
     name: &str,
     bytes: &[u8],
 ) -> io::Result<()> {
+    said(rt, format_args!("write {name:?}"), check_name(name))?;
     open_staged(rt, is_open)?;
     let mut path = String::from_str(rt.alloc(), STAGED)?;
     path.push('/')?;
     path.push_str(name)?;
-    fs::write(rt, path.as_str(), bytes)
+    let path = path.as_str();
+    said(
+        rt,
+        format_args!("write {path:?}"),
+        fs::write(rt, path, bytes),
+    )
+}
+
+fn publish_staged<R: FileSystem + Eprint + AllocGlobal>(
+    rt: &R,
+    is_open: &mut bool,
+) -> io::Result<()> {
+    open_staged(rt, is_open)?;
+    said(rt, format_args!("make {PUBLISHED:?}"), rename_staged(rt))
 }
 
 // A rename onto an empty folder would succeed, so the published folder is looked for first.
-fn rename_staged<R: FileSystem + AllocGlobal>(rt: &R, is_open: &mut bool) -> io::Result<()> {
-    open_staged(rt, is_open)?;
-    if fs::exists(rt, PUBLISHED)? {
-        return Err(io::Error::from(ErrorKind::AlreadyExists));
+fn rename_staged<R: FileSystem>(rt: &R) -> io::Result<()> {
+    if is_there(rt, PUBLISHED)? {
+        return Err(io::Error::new(ErrorKind::AlreadyExists, "it is already there"));
     }
     fs::rename(rt, STAGED, PUBLISHED)
 }

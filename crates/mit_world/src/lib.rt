@@ -5,10 +5,8 @@ mod files;
 mod host;
 mod memory;
 mod outside;
-#[cfg(test)]
-mod tests;
 
-pub use files::Files;
+pub use files::{Files, FilesIter};
 pub use host::{HostConsole, HostFolder, HostOutbox};
 pub use memory::{MemConsole, MemFolder, MemOutbox};
 pub use outside::{Console, Folder, Outbox, OutsideStop};

@@ -9,4 +9,6 @@ reads name true old new appends absent = (drop (length old) new, sym (take-appen
 reads name false old new appends absent = (absent refl, tt)
 
 pub returns-in-Ok-clause-ok : goal.returns-in-Ok-clause-ok
-returns-in-Ok-clause-ok g c = reads c.args.name.now c.in-Ok.found _ _ c.in-Ok.ensures.appends c.in-Ok.ensures.absent
+returns-in-Ok-clause-ok g c =
+    let absent = rw (← c.in-Ok.ensures) at c.append_file-read.ensures.absent in
+    reads c.args.name.now c.in-Ok.found _ _ c.append_file-read.ensures.appends absent
