@@ -1,15 +1,17 @@
 -- A bag is the one sorted list of its rows.
 --     tally-bag_of      a bag holds each row as often as it stands in the list
 --     bag_of_permutation      the order of the list does not matter.        bag_of_bag      a bag of a bag's rows is that bag
+--     bag_of_moved, bag_of_rises      a bag has the rows of the list, in rising order
 --     bag_from_sorted      rows that `sort_by` has sorted are the bag of the rows as they stood before
-use Rattle.std.proofs.Common.{◌≡◌, length, ◌+◌, true, false, List, [], ◌∷◌, ◌++◌, refl, ap, sym, ◌∙◌, arith, if◌then◌else◌, append_assoc, append-nil}
+use Rattle.std.proofs.Common.{◌≡◌, ◌≢◌, AllPairs, length, ◌+◌, true, false, List, [], ◌∷◌, ◌++◌, refl, ap, sym, ◌∙◌, arith, if◌then◌else◌, append_assoc, append-nil}
 use Rattle.std.specs.List.{All}
 use Rattle.std.specs.List.Sorted.{IsPermutation, IsSorted}
 use Rattle.std.specs.Ordering.{is_le, is_lt, ordering_reverse}
 use Rattle.std.specs.declared.cmp.Ordering.{Ordering}
 use Rattle.std.specs.declared.cmp.Ordering.TheVariants.{Less, Equal, Greater}
 use Rattle.std.proofs.lemmas.List.Elements.{All-nil, All-cons, All-head, All-tail, All-weaker}
-use Rattle.std.proofs.lemmas.List.Sorted.{ranks_by, sum_by-IsPermutation}
+use Rattle.std.proofs.lemmas.List.Kept.{AllPairs-cons}
+use Rattle.std.proofs.lemmas.List.Sorted.{ranks_by, sum_by-IsPermutation, IsPermutation-cons, IsPermutation-middle, IsPermutation-refl, IsPermutation-trans}
 use Rattle.std.proofs.lemmas.List.Sums.{sum_by-append}
 use Rattle.mit_rows.specs.Order.{row_cmp}
 use Rattle.mit_rows.specs.Bags.{RowOf, BagOf, insert_row, bag_of, all_rows, bag_sum, IsBag}
@@ -69,6 +71,38 @@ pub rising-bag_of : (rows : List RowOf) → Rising row_cmp (bag_of rows)
 unfolding bag_of
 rising-bag_of [] = tt
 rising-bag_of (row ∷ rows) = rising-insert_row row (bag_of rows) (rising-bag_of rows)
+
+not_greater : (r s : Ordering) → s ≡ ordering_reverse r → is_lt r ≡ false → s ≢ Greater
+not_greater Less s e h = cc
+not_greater Equal s e h = λ above. cc
+not_greater Greater s e h = λ above. cc
+
+no_later_below : (rows : List RowOf) → Rising row_cmp rows → AllPairs (λ row later. row_cmp row later ≢ Greater) rows
+no_later_below [] up = λ i j d lt within. absurd (omega arith)
+no_later_below (row ∷ rows) up =
+    let R : RowOf → RowOf → Type 0 = λ row later. row_cmp row later ≢ Greater in
+    let first : All (R row) rows =
+    All-weaker (λ later. is_lt (row_cmp later row) ≡ false) (R row) (λ later h. not_greater (row_cmp later row) (row_cmp row later) (row_cmp_total.antisymm row later) h) rows up.0 in
+    AllPairs-cons R row rows first (no_later_below rows up.1)
+
+pub bag_of_rises : (rows : List RowOf) → AllPairs (λ row later. row_cmp row later ≢ Greater) (bag_of rows)
+bag_of_rises rows = no_later_below (bag_of rows) (rising-bag_of rows)
+
+insert_row_moved : (row : RowOf) (rows : List RowOf) → IsPermutation (row ∷ rows) (insert_row row rows)
+unfolding insert_row
+insert_row_moved row [] = IsPermutation-refl (row ∷ [])
+insert_row_moved row (next ∷ rest) =
+    elim (is_le (row_cmp row next)) as (λ b. IsPermutation (row ∷ next ∷ rest) (if b then row ∷ next ∷ rest else next ∷ insert_row row rest)) [
+      | true ↦ IsPermutation-refl (row ∷ next ∷ rest)
+      | false ↦ IsPermutation-trans (row ∷ next ∷ rest) (next ∷ row ∷ rest) (next ∷ insert_row row rest) (IsPermutation-middle (row ∷ []) next rest)
+          (IsPermutation-cons next (row ∷ rest) (insert_row row rest) (insert_row_moved row rest))
+    ]
+
+pub bag_of_moved : (rows : List RowOf) → IsPermutation rows (bag_of rows)
+unfolding bag_of
+bag_of_moved [] = IsPermutation-refl []
+bag_of_moved (row ∷ rows) =
+    IsPermutation-trans (row ∷ rows) (row ∷ bag_of rows) (insert_row row (bag_of rows)) (IsPermutation-cons row rows (bag_of rows) (bag_of_moved rows)) (insert_row_moved row (bag_of rows))
 
 -- a rising list that holds each row as often is the bag
 bag_from_rising : (rows sorted : List RowOf) → Rising row_cmp sorted → ((z : RowOf) → tally row_cmp z sorted ≡ tally row_cmp z rows) → sorted ≡ bag_of rows

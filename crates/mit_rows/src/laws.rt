@@ -1,5 +1,5 @@
 //! Laws of the order and of the bags. A call does nothing: its caller learns what it ensures.
-ghost use Rattle.std.specs.Prelude.{◌≡◌, List, ◌++◌};
+ghost use Rattle.std.specs.Prelude.{◌≡◌, ◌≢◌, List, ◌++◌, AllPairs};
 ghost use Rattle.std.specs.Cmp.{IsTotalOrder};
 ghost use Rattle.std.specs.List.Sorted.{IsPermutation};
 ghost use Rattle.mit_rows.specs.Bags.{IsBag, RowOf, bag_of};
@@ -11,6 +11,13 @@ use std::cmp::Ordering;
 pub fn rows_are_ordered()
     ensures total { IsTotalOrder row_cmp }
     ensures same { (a b : RowOf) → row_cmp a b ≡ Ordering.Equal → a ≡ b }
+{}
+
+/// The bag of a list has its rows, each as often as it stands there, in rising order.
+pub fn bags_are_rows_in_order()
+    ensures rows { (rows : List RowOf) → IsPermutation rows (bag_of rows) }
+    ensures rising { (rows : List RowOf) →
+        AllPairs (λ row later. row_cmp row later ≢ Ordering.Greater) (bag_of rows) }
 {}
 
 /// The bag of a list stands in order, does not depend on the order of the list, and may be taken part by part.

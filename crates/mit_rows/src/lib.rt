@@ -13,6 +13,3 @@ pub use integers::parse_int;
 pub use row::{MAX_COLUMNS, Row, cmp_rows, cmp_values};
 pub use text::{MAX_TEXT, Text, TextRefused};
 pub use value::{ColType, Value};
-
-#[cfg(test)]
-mod tests;

@@ -1,4 +1,4 @@
-ghost use Rattle.std.specs.Prelude.{◌≡◌, ◌≤◌, IfOk, IfSome, Some, length, vec_len};
+ghost use Rattle.std.specs.Prelude.{◌≡◌, ◌≤◌, ◌∷◌, [], IfOk, IfSome, Some, length, vec_len};
 ghost use Rattle.mit_rows.specs.Order.{row_cmp, value_cmp};
 ghost use Rattle.mit_rows.specs.Stored.{leader};
 
@@ -28,6 +28,7 @@ enum Stored {
 
 impl Model for Row {
     ghost use Rattle.std.specs.Prelude.{List, ◌≤◌, length};
+    ghost use Rattle.mit_rows.specs.declared.row.TheConstants.{MAX_COLUMNS};
     ghost use Rattle.mit_rows.specs.declared.value.Value.{Value as OneValue};
 
     ghost Value = { List OneValue };
@@ -36,10 +37,19 @@ impl Model for Row {
 
     ghost view = { λ r. listed r.stored };
 
-    ghost invariant = { λ r. (length (listed r.stored) ≤ 16) × IsLed r.stored };
+    ghost invariant = { λ r. (length (listed r.stored) ≤ MAX_COLUMNS) × IsLed r.stored };
 }
 
 impl Row {
+    /// A row of this one value.
+    pub fn from_value(value: Value) -> Row
+        ensures { result ≡ value ∷ [] }
+    {
+        Row {
+            stored: Stored::One(value),
+        }
+    }
+
     /// A row of these values.
     pub fn from_values(mut values: Vec<Value>) -> Row
         requires { vec_len values ≤ MAX_COLUMNS }
@@ -48,9 +58,7 @@ impl Row {
         if values.len() == 1
             && let Some(only) = values.pop()
         {
-            return Row {
-                stored: Stored::One(only),
-            };
+            return Row::from_value(only);
         }
         let stored = match values.first() {
             Some(Value::Int(number)) => Stored::Led(*number, values),
@@ -85,7 +93,10 @@ impl Row {
     pub fn copy(&self, alloc: Global) -> Result<Row, AllocError>
         ensures { IfOk result (λ other. other ≡ self.now) }
     {
-        let source = self.values();
+        let source = match &self.stored {
+            Stored::One(value) => return Ok(Row::from_value(value.copy(alloc)?)),
+            Stored::Led(_, values) | Stored::Many(values) => values,
+        };
         let mut values = Vec::with_capacity(alloc, source.len())?;
         for value in source {
             values.push(value.copy(alloc)?)?;

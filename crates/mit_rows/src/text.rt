@@ -23,12 +23,13 @@ pub struct Text {
 
 impl Model for Text {
     ghost use Rattle.std.specs.Prelude.{List, ℕ, ◌≤◌, length, string_bytes};
+    ghost use Rattle.mit_rows.specs.declared.text.TheConstants.{MAX_TEXT};
 
     ghost Value = { List ℕ };
 
     ghost view = { λ t. string_bytes t.text };
 
-    ghost invariant = { λ t. length (string_bytes t.text) ≤ 65536 };
+    ghost invariant = { λ t. length (string_bytes t.text) ≤ MAX_TEXT };
 }
 
 impl Text {

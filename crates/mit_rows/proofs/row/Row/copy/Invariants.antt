@@ -2,4 +2,4 @@ use Rattle.std.proofs.Common.{◌≡◌, take}
 use Rattle.mit_rows.proofs.row.Row.copy.Given as goal
 
 abbrev pub invariant-loop-value : goal.invariant-loop-value
-invariant-loop-value l = l.values.items ≡ take l.value-index l.source
+invariant-loop-value l = l.values.items ≡ take l.value-index l.value-items
