@@ -13,7 +13,7 @@ use Rattle.std.proofs.lemmas.List.Sums.{take_while-cons}
 use Rattle.std.proofs.lemmas.Str.{IsUtf8-append, IsUtf8-from_ascii, IsUtf8-nil}
 use Rattle.std.proofs.lemmas.Str.Ascii.{IsAscii-cons, IsAscii-nil}
 use Rattle.std.proofs.lemmas.Str.Parse.{numerals_by_value, tells_all_ascii_digits}
-use Rattle.mit_lex.specs.Pieces.{column_at, is_blank, is_word_byte, number_at, piece_at, quoted, text_piece, word_at, word_kind}
+use Rattle.mit_lex.specs.Pieces.{column_piece, is_blank, is_word_byte, number_piece, piece_at, quoted, text_piece, word_piece, word_kind}
 use Rattle.mit_lex.specs.Tables.{keywords, place_of}
 use Rattle.mit_lex.specs.Tokens.{Scan, scanned, with_piece}
 use Rattle.mit_lex.specs.Valid.{IsName, is_word}
@@ -55,7 +55,7 @@ no_digit true e = sym e
 no_digit false e = refl
 
 pub reads_word : (word : List ℕ) (kind : TokenKind) → is_word word ≡ true → leb (length word) 64 ≡ true → word_kind word (place_of word keywords) ≡ kind → ReadsAs word kind
-unfolding word_at
+unfolding word_piece
 reads_word [] kind letters short is = cc
 reads_word (first ∷ word) kind letters short is =
     let parts = and_parts (not (is_ascii_digit first)) (list_all is_word_byte (first ∷ word)) letters in
@@ -65,7 +65,7 @@ reads_word (first ∷ word) kind letters short is =
       utf8 = IsUtf8-from_ascii (first ∷ word) (all_ascii (first ∷ word) parts.1);
       cut = λ gap rest is_gap.
           let run = run_whole is_word_byte (first ∷ word) rest gap parts.1 (gap_word gap is_gap) in
-          let at : Found kind (length (first ∷ word)) ≡ word_at ((first ∷ word) ++ gap ∷ rest) = rw (run, short, is) refl in
+          let at : Found kind (length (first ∷ word)) ≡ word_piece ((first ∷ word) ++ gap ∷ rest) = rw (run, short, is) refl in
           sym (word_is _ ((first ∷ word) ++ gap ∷ rest) (word ++ gap ∷ rest) first refl (no_digit (is_ascii_digit first) parts.0) head.0 at);
     }
 
@@ -93,7 +93,7 @@ digits_of value most =
     record { some = numeral.0.0; all = all; worth = numeral.1; ascii = IsAscii-decimal value most }
 
 number_reads : (value : ℕ) (ds : List ℕ) → value ≤ 2 ^ 63 → Digits value ds → ReadsAs ds (Number value)
-unfolding number_at
+unfolding number_piece
 number_reads value [] most digits = absurd (let h = digits.some in omega arith)
 number_reads value (first ∷ more) most digits =
     let parts = and_parts (is_ascii_digit first) (list_all is_ascii_digit more) digits.all in
@@ -103,7 +103,7 @@ number_reads value (first ∷ more) most digits =
       utf8 = IsUtf8-from_ascii (first ∷ more) digits.ascii;
       cut = λ gap rest is_gap.
           let run = run_whole is_ascii_digit (first ∷ more) rest gap digits.all (gap_digit gap is_gap) in
-          let at : Found (Number value) (length (first ∷ more)) ≡ number_at ((first ∷ more) ++ gap ∷ rest) = rw (run, digits.worth, small) refl in
+          let at : Found (Number value) (length (first ∷ more)) ≡ number_piece ((first ∷ more) ++ gap ∷ rest) = rw (run, digits.worth, small) refl in
           sym (number_is _ ((first ∷ more) ++ gap ∷ rest) (more ++ gap ∷ rest) first refl parts.0 at);
     }
 
@@ -113,7 +113,7 @@ reads_number value most = number_reads value (decimal value) most (digits_of val
 -- ---- columns
 
 column_reads : (value : ℕ) (ds : List ℕ) → value ≤ 15 → length ds ≤ 2 → Digits value ds → ReadsAs (36 ∷ ds) (Column value)
-unfolding column_at
+unfolding column_piece
 column_reads value ds most short digits =
     let small : leb value 15 ≡ true = grind (arith, nat_tests) in
     let some : ltb 0 (length ds) ≡ true = let h = digits.some in grind (arith, nat_tests) in
@@ -123,7 +123,7 @@ column_reads value ds most short digits =
       utf8 = IsUtf8-from_ascii (36 ∷ ds) (IsAscii-cons 36 ds (omega arith) digits.ascii);
       cut = λ gap rest is_gap.
           let run = run_whole is_ascii_digit ds rest gap digits.all (gap_digit gap is_gap) in
-          let at : Found (Column value) (length (36 ∷ ds)) ≡ column_at (ds ++ gap ∷ rest) =
+          let at : Found (Column value) (length (36 ∷ ds)) ≡ column_piece (ds ++ gap ∷ rest) =
           rw (run, take_all 2 ds short, digits.worth, some, small, size) refl in
           sym (column_is _ ((36 ∷ ds) ++ gap ∷ rest) (ds ++ gap ∷ rest) 36 refl refl at);
     }

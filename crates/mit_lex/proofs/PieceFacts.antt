@@ -6,7 +6,7 @@ use Rattle.std.proofs.lemmas.Bool.{ne_eqb}
 use Rattle.std.proofs.lemmas.Bool.Decides.{nat_tests}
 use Rattle.std.proofs.lemmas.List.{drop_more}
 use Rattle.std.proofs.lemmas.Str.{IsCharBoundary-after_ascii}
-use Rattle.mit_lex.specs.Pieces.{column_at, comment_len, is_blank, is_word_byte, number_at, piece_at, quoted, symbol_at, text_piece, word_at}
+use Rattle.mit_lex.specs.Pieces.{column_piece, comment_len, is_blank, is_word_byte, number_piece, piece_at, quoted, symbol_piece, text_piece, word_piece}
 use Rattle.mit_lex.specs.declared.piece.Piece.{Piece}
 use Rattle.mit_lex.specs.declared.piece.Piece.TheVariants.{Skipped}
 
@@ -18,7 +18,7 @@ pub comment_is : (text rest : List ℕ) (first size : ℕ) → text ≡ first �
 unfolding piece_at
 comment_is text rest first size e mark len = rw (e, mark, len) refl
 
-pub column_is : (piece : Piece) (text rest : List ℕ) (first : ℕ) → text ≡ first ∷ rest → first ≡ 36 → piece ≡ column_at rest → piece ≡ piece_at text
+pub column_is : (piece : Piece) (text rest : List ℕ) (first : ℕ) → text ≡ first ∷ rest → first ≡ 36 → piece ≡ column_piece rest → piece ≡ piece_at text
 unfolding piece_at
 column_is piece text rest first e mark is = rw (e, mark, is) refl
 
@@ -29,31 +29,31 @@ text_is piece text rest first e mark is = rw (e, mark, is) refl
 digit_alone : (first : ℕ) → is_ascii_digit first ≡ true → (is_blank first ≡ false) × (eqb first 35 ≡ false) × (eqb first 36 ≡ false) × (eqb first 34 ≡ false)
 digit_alone first digit = (grind (arith, nat_tests), grind (arith, nat_tests), grind (arith, nat_tests), grind (arith, nat_tests))
 
-pub number_is : (piece : Piece) (text rest : List ℕ) (first : ℕ) → text ≡ first ∷ rest → is_ascii_digit first ≡ true → piece ≡ number_at text → piece ≡ piece_at text
+pub number_is : (piece : Piece) (text rest : List ℕ) (first : ℕ) → text ≡ first ∷ rest → is_ascii_digit first ≡ true → piece ≡ number_piece text → piece ≡ piece_at text
 unfolding piece_at
 number_is piece text rest first e digit is =
     let alone = digit_alone first digit in
-    let here : piece ≡ number_at (first ∷ rest) = rw e at is in
+    let here : piece ≡ number_piece (first ∷ rest) = rw e at is in
     rw (e, alone.0, alone.1, alone.2, alone.3, digit, here) refl
 
 word_alone : (first : ℕ) → is_word_byte first ≡ true → (is_blank first ≡ false) × (eqb first 35 ≡ false) × (eqb first 36 ≡ false) × (eqb first 34 ≡ false)
 word_alone first word = (grind (arith, nat_tests), grind (arith, nat_tests), grind (arith, nat_tests), grind (arith, nat_tests))
 
-pub word_is : (piece : Piece) (text rest : List ℕ) (first : ℕ) → text ≡ first ∷ rest → is_ascii_digit first ≡ false → is_word_byte first ≡ true → piece ≡ word_at text → piece ≡ piece_at text
+pub word_is : (piece : Piece) (text rest : List ℕ) (first : ℕ) → text ≡ first ∷ rest → is_ascii_digit first ≡ false → is_word_byte first ≡ true → piece ≡ word_piece text → piece ≡ piece_at text
 unfolding piece_at
 word_is piece text rest first e digit word is =
     let alone = word_alone first word in
-    let here : piece ≡ word_at (first ∷ rest) = rw e at is in
+    let here : piece ≡ word_piece (first ∷ rest) = rw e at is in
     rw (e, alone.0, alone.1, alone.2, alone.3, word, digit, here) refl
 
 pub symbol_is : (piece : Piece) (text rest : List ℕ) (first : ℕ) → text ≡ first ∷ rest → is_blank first ≡ false → first ≢ 35 → first ≢ 36 → first ≢ 34
-    → is_ascii_digit first ≡ false → is_word_byte first ≡ false → piece ≡ symbol_at text → piece ≡ piece_at text
+    → is_ascii_digit first ≡ false → is_word_byte first ≡ false → piece ≡ symbol_piece text → piece ≡ piece_at text
 unfolding piece_at
 symbol_is piece text rest first e blank no_comment no_column no_text digit word is =
     let a = ne_eqb first 35 no_comment in
     let b = ne_eqb first 36 no_column in
     let d = ne_eqb first 34 no_text in
-    let here : piece ≡ symbol_at (first ∷ rest) = rw e at is in
+    let here : piece ≡ symbol_piece (first ∷ rest) = rw e at is in
     rw (e, blank, a, b, d, word, digit, here) refl
 
 -- a text may be cut after a quote

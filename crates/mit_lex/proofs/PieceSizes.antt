@@ -10,7 +10,7 @@ use Rattle.std.proofs.lemmas.List.{length-take}
 use Rattle.std.proofs.lemmas.List.Sums.{prefix_len-le-length}
 use Rattle.std.proofs.lemmas.List.Folds.{length-prefix_len}
 use Rattle.mit_lex.specs.Tables.{keywords, place_of, symbols}
-use Rattle.mit_lex.specs.Pieces.{column_at, comment_len, escaped, is_blank, is_word_byte, number_at, piece_at, quoted, symbol_at, symbol_of, text_piece, with_byte, word_at, word_kind}
+use Rattle.mit_lex.specs.Pieces.{column_piece, comment_len, escaped, is_blank, is_word_byte, number_piece, piece_at, quoted, symbol_piece, symbol_of, text_piece, with_byte, word_piece, word_kind}
 use Rattle.mit_lex.specs.declared.piece.Piece.{Piece}
 use Rattle.mit_lex.specs.declared.piece.Piece.TheVariants.{Skipped, Found, Refused}
 use Rattle.mit_lex.specs.declared.token.TokenKind.TheVariants.{Column, Number, Symbol, Text}
@@ -33,22 +33,22 @@ run_some p first rest passes =
 run_fits : (p : ℕ → Bool) (text : List ℕ) → length (take_while p text) ≤ length text
 run_fits p text = let len = length-prefix_len p text in let most = prefix_len-le-length p text in omega (arith, len, most)
 
-number_fits : (first : ℕ) (rest : List ℕ) → is_ascii_digit first ≡ true → Fitting (number_at (first ∷ rest)) (length (first ∷ rest))
-unfolding number_at
+number_fits : (first : ℕ) (rest : List ℕ) → is_ascii_digit first ≡ true → Fitting (number_piece (first ∷ rest)) (length (first ∷ rest))
+unfolding number_piece
 number_fits first rest digit =
     let digits = take_while is_ascii_digit (first ∷ rest) in
     fits_if (leb (digits_value 10 digits) (2 ^ 63)) (Found (Number (digits_value 10 digits)) (length digits)) Refused (length (first ∷ rest))
     (λ _. (run_some is_ascii_digit first rest digit, run_fits is_ascii_digit (first ∷ rest))) (λ _. tt)
 
-word_fits : (first : ℕ) (rest : List ℕ) → is_word_byte first ≡ true → Fitting (word_at (first ∷ rest)) (length (first ∷ rest))
-unfolding word_at
+word_fits : (first : ℕ) (rest : List ℕ) → is_word_byte first ≡ true → Fitting (word_piece (first ∷ rest)) (length (first ∷ rest))
+unfolding word_piece
 word_fits first rest letter =
     let word = take_while is_word_byte (first ∷ rest) in
     fits_if (leb (length word) 64) (Found (word_kind word (place_of word keywords)) (length word)) Refused (length (first ∷ rest))
     (λ _. (run_some is_word_byte first rest letter, run_fits is_word_byte (first ∷ rest))) (λ _. tt)
 
-column_fits : (rest : List ℕ) → Fitting (column_at rest) (suc (length rest))
-unfolding column_at
+column_fits : (rest : List ℕ) → Fitting (column_piece rest) (suc (length rest))
+unfolding column_piece
 column_fits rest =
     let len = length-take 2 (take_while is_ascii_digit rest) in
     let most = run_fits is_ascii_digit rest in
@@ -104,8 +104,8 @@ of_fits : (place : Option ℕ) (bytes : List ℕ) (most : ℕ) → 0 < length by
 of_fits None bytes most some fits = tt
 of_fits (Some place) bytes most some fits = (some, fits)
 
-symbol_fits : (first : ℕ) (rest : List ℕ) → Fitting (symbol_at (first ∷ rest)) (length (first ∷ rest))
-unfolding symbol_at
+symbol_fits : (first : ℕ) (rest : List ℕ) → Fitting (symbol_piece (first ∷ rest)) (length (first ∷ rest))
+unfolding symbol_piece
 symbol_fits first rest =
     let text = first ∷ rest in
     let two = length-take 2 text in
@@ -114,9 +114,9 @@ symbol_fits first rest =
     (of_fits (place_of (take 2 text) symbols) (take 2 text) (length text) (omega (arith, two)) (omega (arith, two)))
     (of_fits (place_of (take 1 text) symbols) (take 1 text) (length text) (omega (arith, one)) (omega (arith, one)))
 
-word_or_symbol_fits : (first : ℕ) (rest : List ℕ) → Fitting (cond (is_word_byte first) (word_at (first ∷ rest)) (symbol_at (first ∷ rest))) (length (first ∷ rest))
+word_or_symbol_fits : (first : ℕ) (rest : List ℕ) → Fitting (cond (is_word_byte first) (word_piece (first ∷ rest)) (symbol_piece (first ∷ rest))) (length (first ∷ rest))
 word_or_symbol_fits first rest =
-    fits_if (is_word_byte first) (word_at (first ∷ rest)) (symbol_at (first ∷ rest)) (length (first ∷ rest)) (word_fits first rest) (λ _. symbol_fits first rest)
+    fits_if (is_word_byte first) (word_piece (first ∷ rest)) (symbol_piece (first ∷ rest)) (length (first ∷ rest)) (word_fits first rest) (λ _. symbol_fits first rest)
 
 comment_fits : (rest : List ℕ) → Fitting (Skipped (1 + comment_len rest)) (suc (length rest))
 comment_fits rest = let size = prefix_len-le-length (λ byte. not (eqb byte 10)) rest in (omega arith, omega (arith, size))
@@ -126,14 +126,14 @@ unfolding piece_at
 piece_fits [] = tt
 piece_fits (first ∷ rest) =
     let most = length (first ∷ rest) in
-    let word = cond (is_word_byte first) (word_at (first ∷ rest)) (symbol_at (first ∷ rest)) in
-    let number = cond (is_ascii_digit first) (number_at (first ∷ rest)) word in
+    let word = cond (is_word_byte first) (word_piece (first ∷ rest)) (symbol_piece (first ∷ rest)) in
+    let number = cond (is_ascii_digit first) (number_piece (first ∷ rest)) word in
     let quote = cond (eqb first 34) (text_piece (quoted rest)) number in
-    let column = cond (eqb first 36) (column_at rest) quote in
+    let column = cond (eqb first 36) (column_piece rest) quote in
     let comment = cond (eqb first 35) (Skipped (1 + comment_len rest)) column in
     fits_if (is_blank first) (Skipped 1) comment most (λ _. (omega arith, omega arith))
     (λ _. fits_if (eqb first 35) (Skipped (1 + comment_len rest)) column most (λ _. comment_fits rest)
-    (λ _. fits_if (eqb first 36) (column_at rest) quote most (λ _. column_fits rest)
+    (λ _. fits_if (eqb first 36) (column_piece rest) quote most (λ _. column_fits rest)
     (λ _. fits_if (eqb first 34) (text_piece (quoted rest)) number most (λ _. text_fits (quoted rest) (length rest) (quoted_fits rest))
-    (λ _. fits_if (is_ascii_digit first) (number_at (first ∷ rest)) word most (number_fits first rest)
+    (λ _. fits_if (is_ascii_digit first) (number_piece (first ∷ rest)) word most (number_fits first rest)
     (λ _. word_or_symbol_fits first rest)))))

@@ -10,7 +10,7 @@ use Rattle.std.specs.Str.Lossy.{utf8_valid_len}
 use Rattle.mit_lex.proofs.PieceSizes.{Fitting, piece_fits}
 use Rattle.mit_lex.specs.Limits.{first_too_many, is_too_many, open_after, run_after}
 use Rattle.mit_lex.specs.Pieces.{piece_at}
-use Rattle.mit_lex.specs.Tokens.{Scan, TellsPlace, lexed, refused_or, scanned, tokens_of, with_piece}
+use Rattle.mit_lex.specs.Tokens.{Scan, TellsLexFault, lexed, refused_or, scanned, tokens_of, with_piece}
 use Rattle.mit_lex.specs.declared.piece.Piece.{Piece}
 use Rattle.mit_lex.specs.declared.piece.Piece.TheVariants.{Skipped, Found, Refused}
 use Rattle.mit_lex.specs.declared.token.LexStop.{LexStop}
@@ -159,8 +159,8 @@ whole_is text short good =
     let test : ltb 1048576 (length text) ≡ false = grind (arith, nat_tests) in
     rw (test, is_utf8-from_IsUtf8 text good) refl
 
-pub tells : (found other : Result (List Token) ℕ) (stop : LexStop) → found ≡ other → TellsPlace found stop → TellsPlace other stop
-tells found other stop same told = subst (λ (from : Result (List Token) ℕ). TellsPlace from stop) same told
+pub tells : (found other : Result (List Token) ℕ) (stop : LexStop) → found ≡ other → TellsLexFault found stop → TellsLexFault other stop
+tells found other stop same told = subst (λ (from : Result (List Token) ℕ). TellsLexFault from stop) same told
 
 -- one token more, and at least one byte
 pub count_more : (tokens : List Token) (token : Token) (at size : ℕ) → length tokens ≤ at → 0 < size → length (tokens ++ token ∷ []) ≤ at + size

@@ -20,7 +20,7 @@ use Rattle.std.proofs.lemmas.Slice.Eq.{bytes_eq-Decides}
 use Rattle.std.proofs.lemmas.Str.{IsCharBoundary-after_ascii, IsCharBoundary-before_ascii, IsUtf8-append, IsUtf8-drop, IsUtf8-from_ascii, IsUtf8-from_is_utf8, IsUtf8-nil, IsUtf8-take, is_utf8-from_IsUtf8}
 use Rattle.std.proofs.lemmas.Str.Ascii.{IsAscii-cons, IsAscii-nil}
 use Rattle.mit_lex.specs.Limits.{first_too_many}
-use Rattle.mit_lex.specs.Pieces.{column_at, comment_len, escaped, is_blank, is_word_byte, number_at, piece_at, quoted, symbol_at, symbol_of, text_piece, with_byte, word_at, word_kind}
+use Rattle.mit_lex.specs.Pieces.{column_piece, comment_len, escaped, is_blank, is_word_byte, number_piece, piece_at, quoted, symbol_piece, symbol_of, text_piece, with_byte, word_piece, word_kind}
 use Rattle.mit_lex.specs.Tables.{keywords, place_of, symbols}
 use Rattle.mit_lex.specs.Tokens.{Scan, lexed, refused_or, scanned, tokens_of, with_piece}
 use Rattle.mit_lex.specs.Valid.{IsToken, is_word}
@@ -146,8 +146,8 @@ word_small byte word = grind (arith, nat_tests)
 behind_longest : (p : ℕ → Bool) → ((byte : ℕ) → p byte ≡ true → byte < 128) → (text : List ℕ) → IsUtf8 text → IsUtf8 (drop (length (take_while p text)) text)
 behind_longest p small text utf8 = rw (length-prefix_len p text) (behind_run p small (prefix_len p text) text (run_passes p text) utf8)
 
-number_good : (text : List ℕ) → IsUtf8 text → Good (number_at text) text
-unfolding number_at
+number_good : (text : List ℕ) → IsUtf8 text → Good (number_piece text) text
+unfolding number_piece
 number_good text utf8 =
     let digits = take_while is_ascii_digit text in
     good_if (leb (digits_value 10 digits) (2 ^ 63)) (Found (Number (digits_value 10 digits)) (length digits)) Refused text
@@ -162,8 +162,8 @@ word_is_word : (first : ℕ) (rest : List ℕ) → is_ascii_digit first ≡ fals
 word_is_word first rest digit letter =
     rw (take_while-cons is_word_byte first rest, letter, letter, digit) (run_passes is_word_byte rest)
 
-word_good : (first : ℕ) (rest : List ℕ) → is_ascii_digit first ≡ false → is_word_byte first ≡ true → IsUtf8 (first ∷ rest) → Good (word_at (first ∷ rest)) (first ∷ rest)
-unfolding word_at
+word_good : (first : ℕ) (rest : List ℕ) → is_ascii_digit first ≡ false → is_word_byte first ≡ true → IsUtf8 (first ∷ rest) → Good (word_piece (first ∷ rest)) (first ∷ rest)
+unfolding word_piece
 word_good first rest digit letter utf8 =
     let word = take_while is_word_byte (first ∷ rest) in
     good_if (leb (length word) 64) (Found (word_kind word (place_of word keywords)) (length word)) Refused (first ∷ rest)
@@ -184,8 +184,8 @@ passes_below p (suc n) (x ∷ xs) most =
 column_low : (size value : ℕ) → ltb 0 size && leb value 15 ≡ true → value ≤ 15
 column_low size value low = let parts = and_parts (ltb 0 size) (leb value 15) low in grind (arith, nat_tests, parts.1)
 
-column_good : (rest : List ℕ) → IsUtf8 rest → Good (column_at rest) (36 ∷ rest)
-unfolding column_at
+column_good : (rest : List ℕ) → IsUtf8 rest → Good (column_piece rest) (36 ∷ rest)
+unfolding column_piece
 column_good rest utf8 =
     let digits = take 2 (take_while is_ascii_digit rest) in
     let one : 1 + length digits ≡ suc (length digits) = omega arith in
@@ -262,8 +262,8 @@ either_good : (one two : Option Piece) (text : List ℕ) → Good (unwrap_or one
 either_good None two text first second = second
 either_good (Some piece) two text first second = first
 
-symbol_good : (first : ℕ) (rest : List ℕ) → IsUtf8 (first ∷ rest) → Good (symbol_at (first ∷ rest)) (first ∷ rest)
-unfolding symbol_at
+symbol_good : (first : ℕ) (rest : List ℕ) → IsUtf8 (first ∷ rest) → Good (symbol_piece (first ∷ rest)) (first ∷ rest)
+unfolding symbol_piece
 symbol_good first [] utf8 =
     let one = of_good (first ∷ []) (place_of (first ∷ []) symbols) (first ∷ []) refl refl utf8 in
     either_good (symbol_of (first ∷ [])) (symbol_of (first ∷ [])) (first ∷ []) one one
@@ -281,20 +281,20 @@ piece_good : (first : ℕ) (rest : List ℕ) → IsUtf8 (first ∷ rest) → Goo
 unfolding piece_at
 piece_good first rest utf8 =
     let text = first ∷ rest in
-    let word = cond (is_word_byte first) (word_at text) (symbol_at text) in
-    let number = cond (is_ascii_digit first) (number_at text) word in
+    let word = cond (is_word_byte first) (word_piece text) (symbol_piece text) in
+    let number = cond (is_ascii_digit first) (number_piece text) word in
     let quote = cond (eqb first 34) (text_piece (quoted rest)) number in
-    let column = cond (eqb first 36) (column_at rest) quote in
+    let column = cond (eqb first 36) (column_piece rest) quote in
     let comment = cond (eqb first 35) (Skipped (1 + comment_len rest)) column in
     good_if (is_blank first) (Skipped 1) comment text (λ blank. later_utf8 first rest (blank_small first blank) utf8)
     (λ _. good_if (eqb first 35) (Skipped (1 + comment_len rest)) column text
     (λ e. let is : first ≡ 35 = eqb-true first 35 e in rw is (comment_good rest (later_utf8 first rest (omega arith) utf8)))
-    (λ _. good_if (eqb first 36) (column_at rest) quote text
+    (λ _. good_if (eqb first 36) (column_piece rest) quote text
     (λ e. let is : first ≡ 36 = eqb-true first 36 e in rw is (column_good rest (later_utf8 first rest (omega arith) utf8)))
     (λ _. good_if (eqb first 34) (text_piece (quoted rest)) number text
     (λ e. let is : first ≡ 34 = eqb-true first 34 e in rw is (text_good rest (later_utf8 first rest (omega arith) utf8)))
-    (λ _. good_if (is_ascii_digit first) (number_at text) word text (λ digit. number_good text utf8)
-    (λ digit. good_if (is_word_byte first) (word_at text) (symbol_at text) text (λ letter. word_good first rest digit letter utf8) (λ _. symbol_good first rest utf8))))))
+    (λ _. good_if (is_ascii_digit first) (number_piece text) word text (λ digit. number_good text utf8)
+    (λ digit. good_if (is_word_byte first) (word_piece text) (symbol_piece text) text (λ letter. word_good first rest digit letter utf8) (λ _. symbol_good first rest utf8))))))
 
 -- ---- all tokens
 

@@ -7,7 +7,7 @@ use Rattle.std.proofs.lemmas.List.Folds.{list_all_at}
 use Rattle.std.proofs.lemmas.List.FromFn.{get_or-enumerate_from, length-enumerate_from}
 use Rattle.std.proofs.lemmas.Option.{unwrap_or-slice_get}
 use Rattle.std.proofs.lemmas.Str.{IsUtf8-from_ascii}
-use Rattle.mit_lex.specs.Pieces.{piece_at, symbol_at, word_at}
+use Rattle.mit_lex.specs.Pieces.{piece_at, symbol_piece, word_piece}
 use Rattle.mit_lex.specs.Tables.{keywords, symbols}
 use Rattle.mit_lex.specs.Valid.{IsToken}
 use Rattle.mit_lex.specs.Written.{IsGap, IsWrittenAs, gap_first, no_more, token_first, written}
@@ -41,12 +41,12 @@ all_cut : ℕ → List ℕ → (ℕ → TokenKind) → List (List ℕ) → Bool
 all_cut gap rest kind table = list_all (λ entry. is_cut gap rest (kind entry.0) entry.1) (enumerate_from 0 table)
 
 symbols_cut : (gap : ℕ) (rest : List ℕ) → IsGap gap → all_cut gap rest (λ place. Symbol place) symbols ≡ true
-unfolding all_cut is_cut is_found is_same symbols piece_at symbol_at
+unfolding all_cut is_cut is_found is_same symbols piece_at symbol_piece
 symbols_cut gap rest (inl blank) = rw blank refl
 symbols_cut gap rest (inr line) = rw line refl
 
 keywords_cut : (gap : ℕ) (rest : List ℕ) → IsGap gap → all_cut gap rest (λ place. Keyword place) keywords ≡ true
-unfolding all_cut is_cut is_found is_same keywords piece_at word_at
+unfolding all_cut is_cut is_found is_same keywords piece_at word_piece
 keywords_cut gap rest (inl blank) = rw blank refl
 keywords_cut gap rest (inr line) = rw line refl
 

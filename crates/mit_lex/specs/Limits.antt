@@ -1,5 +1,7 @@
 -- How many tokens may stand in a run, and how many braces may be open.
 use Rattle.std.specs.Prelude.{ℕ, ◌+◌, ◌-◌, List, [], ◌∷◌, Bool, false, not, nat_le, ◌==◌, ◌&&◌, ◌||◌, if◌then◌else◌, Option, Some, None}
+use Rattle.mit_lex.specs.declared.limits.TheConstants.{MAX_OPEN, MAX_RUN}
+use Rattle.mit_lex.specs.declared.symbol.TheConstants.{LEFT_BRACE, RIGHT_BRACE, SEMICOLON}
 use Rattle.mit_lex.specs.declared.token.Token.{Token}
 use Rattle.mit_lex.specs.declared.token.TokenKind.{TokenKind}
 use Rattle.mit_lex.specs.declared.token.TokenKind.TheVariants.{Name, Number, Column, Text, Symbol, Keyword}
@@ -15,18 +17,18 @@ is_symbol wanted (Keyword place) = false
 
 -- `{`, and `}`
 abbrev pub opens : TokenKind → Bool
-opens kind = is_symbol 7 kind
+opens kind = is_symbol LEFT_BRACE kind
 
 abbrev pub closes : TokenKind → Bool
-closes kind = is_symbol 8 kind
+closes kind = is_symbol RIGHT_BRACE kind
 
 -- a run of tokens ends with `;`, `{` or `}`, which it does not count
 abbrev pub ends_run : TokenKind → Bool
-ends_run kind = is_symbol 1 kind || opens kind || closes kind
+ends_run kind = is_symbol SEMICOLON kind || opens kind || closes kind
 
 -- a token after so many of its run, with so many braces open, is one too many
 abbrev pub is_too_many : ℕ → ℕ → TokenKind → Bool
-is_too_many run braces kind = (not (ends_run kind) && nat_le 256 run) || (opens kind && nat_le 64 braces)
+is_too_many run braces kind = (not (ends_run kind) && nat_le MAX_RUN run) || (opens kind && nat_le MAX_OPEN braces)
 
 abbrev pub run_after : ℕ → TokenKind → ℕ
 run_after run kind = if ends_run kind then 0 else run + 1

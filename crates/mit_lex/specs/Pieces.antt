@@ -4,6 +4,8 @@ use Rattle.std.specs.Option.{option_or}
 use Rattle.std.specs.List.{prefix_len, take_while}
 use Rattle.std.specs.Char.{is_ascii_alphanumeric, is_ascii_digit}
 use Rattle.std.specs.Str.Parse.{digits_value}
+use Rattle.mit_rows.specs.declared.text.TheConstants.{MAX_TEXT}
+use Rattle.mit_lex.specs.declared.limits.TheConstants.{MAX_WORD}
 use Rattle.mit_lex.specs.Tables.{keywords, place_of, symbols}
 use Rattle.mit_lex.specs.declared.piece.Piece.{Piece}
 use Rattle.mit_lex.specs.declared.piece.Piece.TheVariants.{Skipped, Found, Refused}
@@ -28,20 +30,20 @@ word_kind word (Some place) = Keyword place
 word_kind word None = Name word
 
 -- a word: the longest run of letters, digits and `_`, of at most 64 bytes
-unfoldable pub word_at : List ℕ → Piece
-word_at text =
+unfoldable pub word_piece : List ℕ → Piece
+word_piece text =
     let word = take_while is_word_byte text in
-    if nat_le (length word) 64 then Found (word_kind word (place_of word keywords)) (length word) else Refused
+    if nat_le (length word) MAX_WORD then Found (word_kind word (place_of word keywords)) (length word) else Refused
 
 -- a number: the longest run of digits, of a value of at most 2 to the 63rd
-unfoldable pub number_at : List ℕ → Piece
-number_at text =
+unfoldable pub number_piece : List ℕ → Piece
+number_piece text =
     let digits = take_while is_ascii_digit text in
     if nat_le (digits_value 10 digits) (2 ^ 63) then Found (Number (digits_value 10 digits)) (length digits) else Refused
 
 -- a column, from the byte after its `$` on: one or two digits of a value of at most 15, and two where there are two
-unfoldable pub column_at : List ℕ → Piece
-column_at text =
+unfoldable pub column_piece : List ℕ → Piece
+column_piece text =
     let digits = take 2 (take_while is_ascii_digit text) in
     if nat_lt 0 (length digits) && nat_le (digits_value 10 digits) 15 then Found (Column (digits_value 10 digits)) (1 + length digits) else Refused
 
@@ -69,15 +71,15 @@ quoted (byte ∷ next ∷ rest) =
 -- it is a token where it has at most 65,536 bytes
 abbrev pub text_piece : Option (List ℕ × ℕ) → Piece
 text_piece None = Refused
-text_piece (Some read) = if nat_le (length read.0) 65536 then Found (Text read.0) (1 + read.1) else Refused
+text_piece (Some read) = if nat_le (length read.0) MAX_TEXT then Found (Text read.0) (1 + read.1) else Refused
 
 -- these bytes, where they are a symbol
 abbrev pub symbol_of : List ℕ → Option Piece
 symbol_of bytes = option_map (λ place. Found (Symbol place) (length bytes)) (place_of bytes symbols)
 
 -- a symbol: of two bytes where there is one, else of one
-unfoldable pub symbol_at : List ℕ → Piece
-symbol_at text = unwrap_or (option_or (symbol_of (take 2 text)) (symbol_of (take 1 text))) Refused
+unfoldable pub symbol_piece : List ℕ → Piece
+symbol_piece text = unwrap_or (option_or (symbol_of (take 2 text)) (symbol_of (take 1 text))) Refused
 
 -- what stands at the front of a text: `#` begins a comment, `$` a column and `"` a text
 unfoldable pub piece_at : List ℕ → Piece
@@ -85,8 +87,8 @@ piece_at [] = Refused
 piece_at (byte ∷ rest) =
     if is_blank byte then Skipped 1
     else (if byte == 35 then Skipped (1 + comment_len rest)
-    else (if byte == 36 then column_at rest
+    else (if byte == 36 then column_piece rest
     else (if byte == 34 then text_piece (quoted rest)
-    else (if is_ascii_digit byte then number_at (byte ∷ rest)
-    else (if is_word_byte byte then word_at (byte ∷ rest)
-    else symbol_at (byte ∷ rest))))))
+    else (if is_ascii_digit byte then number_piece (byte ∷ rest)
+    else (if is_word_byte byte then word_piece (byte ∷ rest)
+    else symbol_piece (byte ∷ rest))))))

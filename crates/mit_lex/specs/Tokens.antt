@@ -3,6 +3,7 @@ use Rattle.std.specs.Prelude.{◌≡◌, ℕ, suc, zero, ◌+◌, ◌-◌, List,
 use Rattle.std.specs.Option.{option_or}
 use Rattle.std.specs.Str.{is_utf8}
 use Rattle.std.specs.Str.Lossy.{utf8_valid_len}
+use Rattle.mit_lex.specs.declared.limits.TheConstants.{MAX_SCRIPT}
 use Rattle.mit_lex.specs.Limits.{first_too_many}
 use Rattle.mit_lex.specs.Pieces.{piece_at}
 use Rattle.mit_lex.specs.declared.piece.Piece.{Piece}
@@ -43,11 +44,11 @@ lexed scan = refused_or (option_or (first_too_many 0 0 scan.tokens) scan.stop) s
 -- the tokens of a text, or the place where it is refused: for its size, for its bytes, or at a token
 unfoldable pub tokens_of : List ℕ → Result (List Token) ℕ
 tokens_of text =
-    if nat_lt 1048576 (length text) then Err 1048576
+    if nat_lt MAX_SCRIPT (length text) then Err MAX_SCRIPT
     else (if is_utf8 text then lexed (scanned 0 0 text)
     else Err (utf8_valid_len text))
 
--- what a refusal tells of these tokens; want of memory tells nothing
-abbrev pub TellsPlace : Result (List Token) ℕ → LexStop → Type 0
-TellsPlace found (Fault place) = found ≡ Err place
-TellsPlace found NoMemory = ⊤
+-- what a refusal tells of these tokens; out of memory tells nothing
+abbrev pub TellsLexFault : Result (List Token) ℕ → LexStop → Type 0
+TellsLexFault found (Fault place) = found ≡ Err place
+TellsLexFault found NoMemory = ⊤

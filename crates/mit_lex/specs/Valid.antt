@@ -3,6 +3,8 @@ use Rattle.std.specs.Prelude.{◌≡◌, ◌≤◌, ◌<◌, ◌^◌, ℕ, List,
 use Rattle.std.specs.Char.{is_ascii_digit}
 use Rattle.std.specs.List.{list_all}
 use Rattle.std.specs.Str.{is_utf8}
+use Rattle.mit_rows.specs.declared.text.TheConstants.{MAX_TEXT}
+use Rattle.mit_lex.specs.declared.limits.TheConstants.{MAX_WORD}
 use Rattle.mit_lex.specs.Pieces.{is_word_byte}
 use Rattle.mit_lex.specs.Tables.{keywords, place_of}
 use Rattle.mit_lex.specs.declared.token.TokenKind.{TokenKind}
@@ -16,12 +18,12 @@ is_word (first ∷ rest) = not (is_ascii_digit first) && list_all is_word_byte (
 -- a name is a word of at most 64 bytes that is no keyword
 pub record IsName (name : List ℕ) : Type 0 where
   pub word : is_word name ≡ true
-  pub short : length name ≤ 64
+  pub short : length name ≤ MAX_WORD
   pub free : place_of name keywords ≡ None
 
 -- a text has at most 65,536 bytes, which are UTF-8, and no carriage return among them
 pub record IsText (bytes : List ℕ) : Type 0 where
-  pub short : length bytes ≤ 65536
+  pub short : length bytes ≤ MAX_TEXT
   pub utf8 : is_utf8 bytes ≡ true
   pub lines : list_all (λ byte. not (byte == 13)) bytes ≡ true
 

@@ -28,7 +28,7 @@ written (Keyword place) = unwrap_or (slice_get keywords place) []
 abbrev pub IsGap : ℕ → Type 0
 IsGap byte = (byte ≡ 32) ⊎ (byte ≡ 10)
 
--- the text is these tokens as they are written, each with a gap behind it, and any more gaps
+-- the text is these tokens as they are written, each with a gap after it, and any more gaps
 pub data IsWrittenAs : List ℕ → List TokenKind → Type 0 where
   no_more : IsWrittenAs [] []
   gap_first : {text : List ℕ} {kinds : List TokenKind} → (gap : ℕ) → IsGap gap → IsWrittenAs text kinds → IsWrittenAs (gap ∷ text) kinds

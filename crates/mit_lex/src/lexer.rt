@@ -1,14 +1,11 @@
 ghost use Rattle.std.specs.Prelude.{◌≡◌, ◌≤◌, Ok, Err, length, All, IfOk, IfErr, OnOk};
-ghost use Rattle.mit_lex.specs.Tokens.{TellsPlace, lexed, scanned, tokens_of};
+ghost use Rattle.mit_lex.specs.Tokens.{TellsLexFault, lexed, scanned, tokens_of};
 ghost use Rattle.mit_lex.specs.Valid.{IsToken};
 
-use crate::limits::Limits;
+use crate::limits::{Limits, MAX_SCRIPT};
 use crate::piece::{Piece, piece_at};
 use crate::token::{LexStop, Token};
 use std::alloc::Global;
-
-/// The most bytes of a script.
-const MAX_SCRIPT: usize = 1_048_576;
 
 /// The tokens of a text, in order, with places in bytes. White space is skipped, and so is a comment, from `#` to the
 /// next line feed. The longest token is taken.
@@ -22,8 +19,8 @@ const MAX_SCRIPT: usize = 1_048_576;
 pub fn tokens(alloc: Global, text: &[u8]) -> Result<Vec<Token>, LexStop>
     ensures tokens { IfOk result (λ tokens. tokens_of text.now ≡ Ok tokens.items) }
     ensures count { IfOk result (λ tokens. length tokens.items ≤ length text.now) }
-    ensures short { OnOk result (length text.now ≤ 1048576) }
-    ensures fault { IfErr result (λ stop. TellsPlace (tokens_of text.now) stop) }
+    ensures short { OnOk result (length text.now ≤ MAX_SCRIPT) }
+    ensures fault { IfErr result (λ stop. TellsLexFault (tokens_of text.now) stop) }
     ensures valid { IfOk result (λ tokens. All (λ token. IsToken token.kind) tokens.items) }
 {
     if text.len() > MAX_SCRIPT {
@@ -44,7 +41,7 @@ fn scan(alloc: Global, text: &str) -> Result<Vec<Token>, LexStop>
     requires { length text.now ≤ MAX_SCRIPT }
     ensures tokens { IfOk result (λ tokens. lexed (scanned 0 0 text.now) ≡ Ok tokens.items) }
     ensures count { IfOk result (λ tokens. length tokens.items ≤ length text.now) }
-    ensures fault { IfErr result (λ stop. TellsPlace (lexed (scanned 0 0 text.now)) stop) }
+    ensures fault { IfErr result (λ stop. TellsLexFault (lexed (scanned 0 0 text.now)) stop) }
 {
     let mut tokens = Vec::new(alloc);
     let mut limits = Limits { run: 0, braces: 0 };

@@ -4,15 +4,15 @@
 pub mod keyword;
 pub mod laws;
 mod lexer;
-mod limits;
+pub mod limits;
 mod piece;
 mod quoted;
 pub mod symbol;
 mod tables;
 mod token;
+mod write;
 
 pub use lexer::tokens;
+pub use tables::{keyword_bytes, symbol_bytes};
 pub use token::{LexStop, Token, TokenKind};
-
-#[cfg(test)]
-mod tests;
+pub use write::add_quoted;

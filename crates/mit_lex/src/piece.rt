@@ -3,16 +3,14 @@ ghost use Rattle.std.specs.List.{list_all, prefix_len, take_while};
 ghost use Rattle.std.specs.Char.{digit_value, is_ascii_digit};
 ghost use Rattle.std.specs.Str.{IsAscii};
 ghost use Rattle.std.specs.Str.Parse.{digits_value};
-ghost use Rattle.mit_lex.specs.Pieces.{column_at, comment_len, is_blank, is_word_byte, number_at, piece_at, symbol_at, symbol_of, word_at};
+ghost use Rattle.mit_lex.specs.Pieces.{column_piece, comment_len, is_blank, is_word_byte, number_piece, piece_at, symbol_piece, symbol_of, word_piece};
 
+use crate::limits::MAX_WORD;
 use crate::quoted::quoted;
 use crate::tables::{keyword_place, symbol_place};
 use crate::token::TokenKind;
 use mit_rows::{Text, TextRefused};
 use std::alloc::{AllocError, Global};
-
-/// The most bytes of a name.
-const MAX_NAME: usize = 64;
 
 /// The greatest number: the size of the smallest integer.
 const MAX_NUMBER: u64 = 9_223_372_036_854_775_808;
@@ -79,12 +77,12 @@ fn line_len(text: &[u8]) -> usize
 }
 
 /// The word at the front of a text.
-#[tactic(auto, unfolding(crate::specs::Pieces::word_at))]
+#[tactic(auto, unfolding(crate::specs::Pieces::word_piece))]
 fn word(alloc: Global, text: &[u8]) -> Result<Piece, AllocError>
-    ensures { IfOk result (λ piece. piece ≡ word_at text.now) }
+    ensures { IfOk result (λ piece. piece ≡ word_piece text.now) }
 {
     let word = front_word(text);
-    if word.len() > MAX_NAME {
+    if word.len() > MAX_WORD {
         return Ok(Piece::Refused);
     }
     let kind = match keyword_place(word) {
@@ -112,7 +110,7 @@ fn word_len(text: &[u8]) -> usize
 
 /// ASCII bytes, kept as text.
 fn kept_word(alloc: Global, word: &[u8]) -> Result<Text, AllocError>
-    requires short { length word.now ≤ MAX_NAME }
+    requires short { length word.now ≤ MAX_WORD }
     requires ascii { IsAscii word.now }
     ensures { IfOk result (λ text. text ≡ word.now) }
 {
@@ -127,9 +125,9 @@ fn kept_word(alloc: Global, word: &[u8]) -> Result<Text, AllocError>
 }
 
 /// The number at the front of a text.
-#[tactic(auto, unfolding(crate::specs::Pieces::number_at))]
+#[tactic(auto, unfolding(crate::specs::Pieces::number_piece))]
 fn number(text: &[u8]) -> Piece
-    ensures { result ≡ number_at text.now }
+    ensures { result ≡ number_piece text.now }
 {
     let digits = front_digits(text);
     match number_of(digits) {
@@ -139,9 +137,9 @@ fn number(text: &[u8]) -> Piece
 }
 
 /// The column at the front of a text, from the byte after its `$` on.
-#[tactic(auto, unfolding(crate::specs::Pieces::column_at))]
+#[tactic(auto, unfolding(crate::specs::Pieces::column_piece))]
 fn column(text: &[u8]) -> Piece
-    ensures { result ≡ column_at text.now }
+    ensures { result ≡ column_piece text.now }
 {
     let digits = front(front_digits(text), 2);
     match number_of(digits) {
@@ -195,9 +193,9 @@ fn with_digit(value: u64, byte: u8) -> Option<u64>
 }
 
 /// The symbol at the front of a text: the longer one where two fit.
-#[tactic(auto, unfolding(crate::specs::Pieces::symbol_at))]
+#[tactic(auto, unfolding(crate::specs::Pieces::symbol_piece))]
 fn symbol(text: &[u8]) -> Piece
-    ensures { result ≡ symbol_at text.now }
+    ensures { result ≡ symbol_piece text.now }
 {
     match whole_symbol(front(text, 2)) {
         Some(piece) => piece,

@@ -1,5 +1,7 @@
-ghost use Rattle.std.specs.Prelude.{◌≡◌, ◌<◌, IfSome, bytes_eq, length, position};
+ghost use Rattle.std.specs.Prelude.{◌≡◌, ◌<◌, [], IfSome, bytes_eq, length, map, position, slice_get, unwrap_or};
 ghost use Rattle.mit_lex.specs.Tables.{keywords, place_of, symbols};
+ghost use Rattle.mit_lex.specs.Written.{written};
+ghost use Rattle.mit_lex.specs.declared.token.TokenKind.TheVariants as token;
 
 /// The symbols; a token has the place of its own.
 const SYMBOLS: [&[u8]; 21] = [
@@ -78,4 +80,30 @@ fn index_among(list: &[&[u8]], bytes: &[u8]) -> Option<usize>
     ensures within { IfSome result (λ index. index < length list.now) }
 {
     list.iter().position(|listed| *listed == bytes)
+}
+
+/// The bytes of a symbol, by its place in the table.
+#[tactic(auto, unfolding(crate::specs::Tables::symbols))]
+pub fn symbol_bytes(place: u8) -> &'static [u8]
+    ensures { result.now ≡ written (token.Symbol place) }
+{
+    bytes_at(&SYMBOLS, place)
+}
+
+/// The bytes of a keyword, by its place in the table.
+#[tactic(auto, unfolding(crate::specs::Tables::keywords))]
+pub fn keyword_bytes(place: u8) -> &'static [u8]
+    ensures { result.now ≡ written (token.Keyword place) }
+{
+    bytes_at(&KEYWORDS, place)
+}
+
+/// The bytes at a place of a list.
+fn bytes_at(list: &[&'static [u8]], place: u8) -> &'static [u8]
+    ensures { result.now ≡ unwrap_or (slice_get (map (λ listed. listed.now) list.now) place) [] }
+{
+    match list.get(usize::from(place)) {
+        Some(bytes) => bytes,
+        None => b"",
+    }
 }
