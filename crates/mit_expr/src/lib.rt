@@ -8,6 +8,3 @@ mod values;
 pub use expr::{BinOp, Call, Expr};
 pub use types::{ExprType, type_of, type_of_value};
 pub use values::{EvalFault, eval};
-
-#[cfg(test)]
-mod tests;

@@ -2,6 +2,7 @@ ghost use Rattle.std.specs.Prelude.{◌≡◌, ℤ, ◌+ℤ◌, ◌-ℤ◌, ◌*
 ghost use Rattle.std.specs.Int.{w64};
 ghost use Rattle.std.specs.Option.{SomeIff};
 ghost use Rattle.mit_expr.specs.Types.{type_in, type_of_value};
+ghost use Rattle.mit_expr.specs.Evaluation as step;
 ghost use Rattle.mit_expr.specs.Values as spec;
 
 use crate::expr::{BinOp, Call, Expr};
@@ -34,86 +35,106 @@ impl From<AllocError> for EvalFault {
     }
 }
 
-/// An exact number as a value, where it was within 64 bits.
-fn exact(number: Option<i64>) -> Result<Value, EvalFault>
-    ensures { (due : ℤ) → SomeIff number (FitsSigned w64 due) due → result ≡ spec.within due }
-{
-    match number {
-        Some(number) => Ok(Value::Int(number)),
-        None => Err(EvalFault::Overflow),
+/// Why an evaluation of any expression ends without a value.
+#[derive(Drop)]
+enum EvalStop {
+    /// The expression has this fault.
+    Fault(EvalFault),
+    /// It has no type: an operand is not there or has another type than is wanted.
+    Untyped,
+}
+
+impl From<AllocError> for EvalStop {
+    ghost use Rattle.mit_expr.specs.declared.values.EvalFault.TheVariants.{NoMemory};
+    ghost use Rattle.mit_expr.specs.declared.values.EvalStop.TheVariants.{Fault};
+
+    ghost from_gives = { λ _ stop. stop ≡ Fault NoMemory };
+
+    fn from(_: AllocError) -> EvalStop {
+        EvalStop::Fault(EvalFault::NoMemory)
     }
 }
 
-fn add(left: i64, right: i64) -> Result<Value, EvalFault>
-    ensures { result ≡ spec.within (left +ℤ right) }
+/// An exact number as a value, where it was within 64 bits.
+fn exact(number: Option<i64>) -> Result<Value, EvalStop>
+    ensures { (due : ℤ) → SomeIff number (FitsSigned w64 due) due → step.Follows (spec.within due) result }
+{
+    match number {
+        Some(number) => Ok(Value::Int(number)),
+        None => Err(EvalStop::Fault(EvalFault::Overflow)),
+    }
+}
+
+fn add(left: i64, right: i64) -> Result<Value, EvalStop>
+    ensures { step.Follows (spec.within (left +ℤ right)) result }
 {
     exact(left.checked_add(right))
 }
 
-fn subtract(left: i64, right: i64) -> Result<Value, EvalFault>
-    ensures { result ≡ spec.within (left -ℤ right) }
+fn subtract(left: i64, right: i64) -> Result<Value, EvalStop>
+    ensures { step.Follows (spec.within (left -ℤ right)) result }
 {
     exact(left.checked_sub(right))
 }
 
-fn multiply(left: i64, right: i64) -> Result<Value, EvalFault>
-    ensures { result ≡ spec.within (left *ℤ right) }
+fn multiply(left: i64, right: i64) -> Result<Value, EvalStop>
+    ensures { step.Follows (spec.within (left *ℤ right)) result }
 {
     exact(left.checked_mul(right))
 }
 
-fn divide(left: i64, right: i64) -> Result<Value, EvalFault>
-    ensures { result ≡ spec.quotient left right }
+fn divide(left: i64, right: i64) -> Result<Value, EvalStop>
+    ensures { step.Follows (spec.quotient left right) result }
 {
     if right == 0 {
-        return Err(EvalFault::DivideByZero);
+        return Err(EvalStop::Fault(EvalFault::DivideByZero));
     }
     match left.checked_div(right) {
         Some(quotient) => Ok(Value::Int(quotient)),
-        None => Err(EvalFault::Overflow),
+        None => Err(EvalStop::Fault(EvalFault::Overflow)),
     }
 }
 
-fn remain(left: i64, right: i64) -> Result<Value, EvalFault>
-    ensures { result ≡ spec.remainder left right }
+fn remain(left: i64, right: i64) -> Result<Value, EvalStop>
+    ensures { step.Follows (spec.remainder left right) result }
 {
     if right == 0 {
-        return Err(EvalFault::DivideByZero);
+        return Err(EvalStop::Fault(EvalFault::DivideByZero));
     }
     match left.checked_rem(right) {
         Some(remainder) => Ok(Value::Int(remainder)),
-        None => Err(EvalFault::Overflow),
+        None => Err(EvalStop::Fault(EvalFault::Overflow)),
     }
 }
 
 /// A text as a value, where it has at most 65,536 bytes.
-fn keep_text(alloc: Global, text: &str) -> Result<Value, EvalFault>
-    ensures { spec.Evaluates (if nat_le (length text.now) 65536
-        then Ok (Value.Text text.now) else Err EvalFault.TextTooLong) result }
+fn keep_text(alloc: Global, text: &str) -> Result<Value, EvalStop>
+    ensures { step.Follows (if nat_le (length text.now) MAX_TEXT
+        then spec.gives (Value.Text text.now) else spec.faults spec.text_too_long) result }
 {
     match Text::from_str(alloc, text) {
         Ok(text) => Ok(Value::Text(text)),
-        Err(TextRefused::TooLong) => Err(EvalFault::TextTooLong),
-        Err(TextRefused::NoMemory) => Err(EvalFault::NoMemory),
+        Err(TextRefused::TooLong) => Err(EvalStop::Fault(EvalFault::TextTooLong)),
+        Err(TextRefused::NoMemory) => Err(EvalStop::Fault(EvalFault::NoMemory)),
     }
 }
 
 /// Two integers.
-fn ints(left: &Value, right: &Value) -> Result<(i64, i64), EvalFault>
-    ensures { (over : ℤ → ℤ → Result Value EvalFault) → MatchResult result
+fn ints(left: &Value, right: &Value) -> Result<(i64, i64), EvalStop>
+    ensures { (over : ℤ → ℤ → spec.ValueOrFault) → MatchResult result
         (λ both. spec.of_ints over left.now right.now ≡ over both.0 both.1)
-        (λ fault. (fault ≡ EvalFault.NotNumber) × (spec.of_ints over left.now right.now ≡ Err fault)) }
+        (λ stop. (stop ≡ EvalStop.Untyped) × (spec.of_ints over left.now right.now ≡ spec.untyped)) }
 {
     match (left, right) {
         (Value::Int(left), Value::Int(right)) => Ok((*left, *right)),
-        _ => Err(EvalFault::NotNumber),
+        _ => Err(EvalStop::Untyped),
     }
 }
 
 /// An operator over its two values, where both are always evaluated and none is a text to be joined.
-fn operate(op: BinOp, left: &Value, right: &Value) -> Result<Value, EvalFault>
-    requires { IsTrue (spec.is_strict op) }
-    ensures { result ≡ spec.operate op left.now right.now }
+fn operate(op: BinOp, left: &Value, right: &Value) -> Result<Value, EvalStop>
+    requires { IsTrue (step.is_strict op) }
+    ensures { step.Follows (spec.operate op left.now right.now) result }
 {
     match op {
         BinOp::Add => {
@@ -146,56 +167,57 @@ fn operate(op: BinOp, left: &Value, right: &Value) -> Result<Value, EvalFault>
     }
 }
 
-/// Whether the left value of `and` or `or` decides, so that the right side is not evaluated.
-fn decides(op: BinOp, left: &Value) -> bool
-    ensures { result ≡ spec.decides op left.now }
+/// Whether the left value of `and` or `or` decides, so that the right side is not evaluated; none where it is no truth
+/// value.
+fn decides(op: BinOp, left: &Value) -> Option<bool>
+    ensures { result ≡ step.decides op left.now }
 {
     match (op, left) {
-        (BinOp::And, Value::Bool(truth)) => !*truth,
-        (BinOp::Or, Value::Bool(truth)) => *truth,
-        _ => false,
+        (BinOp::And, Value::Bool(truth)) => Some(!*truth),
+        (BinOp::Or, Value::Bool(truth)) => Some(*truth),
+        _ => None,
     }
 }
 
-/// The other truth value; any other value as it is.
-fn negate(value: Value) -> Value
-    ensures { spec.negated (Ok value) ≡ Ok result }
+/// The other truth value.
+fn negate(value: &Value) -> Result<Value, EvalStop>
+    ensures { step.Follows (spec.not_value (spec.gives value.now)) result }
 {
     match value {
-        Value::Bool(truth) => Value::Bool(!truth),
-        other => other,
+        Value::Bool(truth) => Ok(Value::Bool(!*truth)),
+        _ => Err(EvalStop::Untyped),
     }
 }
 
-/// A function over its value; any other value as it is.
-fn call_on(alloc: Global, call: Call, value: Value) -> Result<Value, EvalFault>
-    ensures { spec.Evaluates (spec.call_value call value) result }
+/// A function over its value.
+fn call_on(alloc: Global, call: Call, value: Value) -> Result<Value, EvalStop>
+    ensures { step.Follows (spec.call_value call value) result }
 {
     match (call, value) {
         (Call::ToText, Value::Int(number)) => keep_text(alloc, Buffer::new().format(number)),
         (Call::ToInt, Value::Text(text)) => match parse_int(text.bytes()) {
             Some(number) => Ok(Value::Int(number)),
-            None => Err(EvalFault::NotNumber),
+            None => Err(EvalStop::Fault(EvalFault::NotNumber)),
         },
         (Call::Len, Value::Text(text)) => Ok(Value::Int(text.bytes().len() as i64)),
-        (_, other) => Ok(other),
+        _ => Err(EvalStop::Untyped),
     }
 }
 
 /// A copy of the value at this place.
-fn value_at(alloc: Global, values: &[Value], place: usize) -> Result<Value, EvalFault>
-    ensures { spec.Evaluates (spec.value_at (slice_get values.now place)) result }
+fn value_at(alloc: Global, values: &[Value], place: usize) -> Result<Value, EvalStop>
+    ensures { step.Follows (spec.value_at (slice_get values.now place)) result }
 {
     match values.get(place) {
         Some(value) => Ok(value.copy(alloc)?),
-        None => Err(EvalFault::NotNumber),
+        None => Err(EvalStop::Untyped),
     }
 }
 
 /// The value of any expression, also of one without a type.
 #[cycle(evaluate)]
-fn evaluate(alloc: Global, expr: &Expr, row: &Row, captures: &[Value]) -> Result<Value, EvalFault>
-    ensures { spec.Evaluates (spec.value_in row.now captures.now expr.now) result }
+fn evaluate(alloc: Global, expr: &Expr, row: &Row, captures: &[Value]) -> Result<Value, EvalStop>
+    ensures { step.Follows (spec.value_in row.now captures.now expr.now) result }
 {
     match expr {
         Expr::Column(column) => value_at(alloc, row.values(), usize::from(*column)),
@@ -204,7 +226,10 @@ fn evaluate(alloc: Global, expr: &Expr, row: &Row, captures: &[Value]) -> Result
         Expr::Bin { op, left, right } => {
             evaluate_both(alloc, *op, left.get(), right.get(), row, captures)
         }
-        Expr::Not(arg) => Ok(negate(evaluate(alloc, arg.get(), row, captures)?)),
+        Expr::Not(arg) => {
+            let arg = evaluate(alloc, arg.get(), row, captures)?;
+            negate(&arg)
+        }
         Expr::Call { call, arg } => {
             let arg = evaluate(alloc, arg.get(), row, captures)?;
             call_on(alloc, *call, arg)
@@ -221,8 +246,8 @@ fn evaluate_both(
     right: &Expr,
     row: &Row,
     captures: &[Value],
-) -> Result<Value, EvalFault>
-    ensures { spec.Evaluates (spec.combined op (spec.value_in row.now captures.now left.now)
+) -> Result<Value, EvalStop>
+    ensures { step.Follows (spec.combined op (spec.value_in row.now captures.now left.now)
         (spec.value_in row.now captures.now right.now)) result }
 {
     match op {
@@ -233,10 +258,10 @@ fn evaluate_both(
         }
         BinOp::And | BinOp::Or => {
             let left = evaluate(alloc, left, row, captures)?;
-            if decides(op, &left) {
-                Ok(left)
-            } else {
-                evaluate(alloc, right, row, captures)
+            match decides(op, &left) {
+                Some(true) => Ok(left),
+                Some(false) => evaluate(alloc, right, row, captures),
+                None => Err(EvalStop::Untyped),
             }
         }
         _ => {
@@ -256,22 +281,22 @@ fn join(
     row: &Row,
     captures: &[Value],
     text: &mut String,
-) -> Result<(), EvalFault>
-    ensures ok { OnOk result (spec.Joins (spec.combined BinOp.Concat
+) -> Result<(), EvalStop>
+    ensures ok { OnOk result (step.Joins (spec.combined BinOp.Concat
         (spec.value_in row.now captures.now left.now) (spec.value_in row.now captures.now right.now))
         (string_bytes text.old) (string_bytes text.new)) }
-    ensures err { IfErr result (λ fault. spec.Evaluates (spec.combined BinOp.Concat
+    ensures err { IfErr result (λ stop. step.Follows (spec.combined BinOp.Concat
         (spec.value_in row.now captures.now left.now) (spec.value_in row.now captures.now right.now))
-        (Err fault)) }
+        (Err stop)) }
 {
     let start = text.len();
     let left_is_text = append(alloc, left, row, captures, text)?;
     let right_is_text = append(alloc, right, row, captures, text)?;
     if !left_is_text || !right_is_text {
-        return Err(EvalFault::NotNumber);
+        return Err(EvalStop::Untyped);
     }
     if text.len() - start > MAX_TEXT {
-        return Err(EvalFault::TextTooLong);
+        return Err(EvalStop::Fault(EvalFault::TextTooLong));
     }
     Ok(())
 }
@@ -284,11 +309,11 @@ fn append(
     row: &Row,
     captures: &[Value],
     text: &mut String,
-) -> Result<bool, EvalFault>
-    ensures ok { IfOk result (spec.Appends (spec.value_in row.now captures.now expr.now)
+) -> Result<bool, EvalStop>
+    ensures ok { IfOk result (step.Appends (spec.value_in row.now captures.now expr.now)
         (string_bytes text.old) (string_bytes text.new)) }
-    ensures err { IfErr result (λ fault. spec.Evaluates
-        (spec.value_in row.now captures.now expr.now) (Err fault)) }
+    ensures err { IfErr result (λ stop. step.Follows
+        (spec.value_in row.now captures.now expr.now) (Err stop)) }
 {
     if let Expr::Bin {
         op: BinOp::Concat,
@@ -315,5 +340,9 @@ pub fn eval(alloc: Global, expr: &Expr, row: &Row, captures: &[Value]) -> Result
     ensures typed { IfOk result (λ value. type_in (map type_of_value row.now)
         (map type_of_value captures.now) expr.now ≡ Some (type_of_value value)) }
 {
-    evaluate(alloc, expr, row, captures)
+    match evaluate(alloc, expr, row, captures) {
+        Ok(value) => Ok(value),
+        Err(EvalStop::Fault(fault)) => Err(fault),
+        Err(EvalStop::Untyped) => unreachable!(),
+    }
 }
