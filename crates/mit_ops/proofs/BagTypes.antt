@@ -1,5 +1,6 @@
 -- What an operator gives is again the type of a bag.
 use Rattle.std.proofs.Common.{◌≡◌, ℕ, ◌+◌, ◌≤◌, List, [], ◌∷◌, ◌++◌, length, length-append, Bool, true, false, Option, Some, None, option_map, if◌then◌else◌, slice_get, refl, subst, arith}
+use Rattle.mit_rows.specs.declared.row.TheConstants.{MAX_COLUMNS}
 use Rattle.mit_rows.specs.declared.value.ColType.{ColType}
 use Rattle.mit_rows.specs.declared.value.ColType.TheVariants.{Int, Text, Bool as Truth}
 use Rattle.mit_expr.specs.Types.{type_in, where_is}
@@ -8,7 +9,7 @@ use Rattle.mit_ops.specs.declared.kinds.OpSpec.TheVariants as op
 use Rattle.mit_ops.specs.declared.types.VarType.{VarType}
 use Rattle.mit_ops.specs.Results.{AreBags, IsBagType, agg_type, and_types, bag, first, flat_type, is_a, keys_fit, only_column, result, same_types, scalar, second, types_of, width, with_column}
 
-bag_fits : (columns : List ColType) → length columns ≤ 16 → IsBagType (bag columns)
+bag_fits : (columns : List ColType) → length columns ≤ MAX_COLUMNS → IsBagType (bag columns)
 bag_fits columns h = (h, λ e. cc)
 
 scalar_fits : (is : ColType) → IsBagType (scalar is)
@@ -27,16 +28,16 @@ length-types_of f [] types e = let same : [] ≡ types = cc in subst (λ (t : Li
 length-types_of f (x ∷ xs) types e =
     let long = and_length (f x) (types_of f xs) (length xs) types (length-types_of f xs) e in omega (arith, long)
 
-first_fits : (bags : List VarType) → AreBags bags → length (first bags) ≤ 16
+first_fits : (bags : List VarType) → AreBags bags → length (first bags) ≤ MAX_COLUMNS
 first_fits [] given = omega arith
 first_fits (input ∷ inputs) given = (given 0 input (omega arith)).0
 
 -- where a bag is given under a condition
-if_fits : (holds : Bool) (columns : List ColType) (type : VarType) → length columns ≤ 16 → (if holds then Some (bag columns) else None) ≡ Some type → IsBagType type
+if_fits : (holds : Bool) (columns : List ColType) (type : VarType) → length columns ≤ MAX_COLUMNS → (if holds then Some (bag columns) else None) ≡ Some type → IsBagType type
 if_fits true columns type h e = let same : bag columns ≡ type = cc in subst IsBagType same (bag_fits columns h)
 if_fits false columns type h e = cc
 
-some_fits : (columns : List ColType) (type : VarType) → length columns ≤ 16 → Some (bag columns) ≡ Some type → IsBagType type
+some_fits : (columns : List ColType) (type : VarType) → length columns ≤ MAX_COLUMNS → Some (bag columns) ≡ Some type → IsBagType type
 some_fits columns type h e = let same : bag columns ≡ type = cc in subst IsBagType same (bag_fits columns h)
 
 -- a scalar or a bag of what may be given
@@ -44,12 +45,12 @@ scalars_fit : (is : Option ColType) (type : VarType) → option_map scalar is �
 scalars_fit None type e = cc
 scalars_fit (Some is) type e = let same : scalar is ≡ type = cc in subst IsBagType same (scalar_fits is)
 
-bags_fit : (columns : Option (List ColType)) (n : ℕ) (type : VarType) → ((types : List ColType) → columns ≡ Some types → length types ≡ n) → n ≤ 16
+bags_fit : (columns : Option (List ColType)) (n : ℕ) (type : VarType) → ((types : List ColType) → columns ≡ Some types → length types ≡ n) → n ≤ MAX_COLUMNS
     → option_map bag columns ≡ Some type → IsBagType type
 bags_fit None n type given h e = cc
 bags_fit (Some columns) n type given h e = some_fits columns type (let long = given columns refl in omega (arith, long)) e
 
-with_fits : (columns : Option (List ColType)) (more : Option ColType) (n : ℕ) (type : VarType) → ((types : List ColType) → columns ≡ Some types → length types ≡ n) → n + 1 ≤ 16
+with_fits : (columns : Option (List ColType)) (more : Option ColType) (n : ℕ) (type : VarType) → ((types : List ColType) → columns ≡ Some types → length types ≡ n) → n + 1 ≤ MAX_COLUMNS
     → with_column columns more ≡ Some type → IsBagType type
 with_fits None more n type given h e = cc
 with_fits (Some columns) None n type given h e = cc
@@ -63,7 +64,7 @@ argument_fits (input ∷ inputs) type given e = let same : input ≡ type = cc i
 its_length : (columns types : List ColType) → Some columns ≡ Some types → length types ≡ length columns
 its_length columns types e = let same : columns ≡ types = cc in subst (λ (t : List ColType). length t ≡ length columns) same refl
 
-pub result_fits : (spec : OpSpec) (bags : List VarType) (captures : List ColType) (type : VarType) → AreBags bags → width spec bags ≤ 16
+pub result_fits : (spec : OpSpec) (bags : List VarType) (captures : List ColType) (type : VarType) → AreBags bags → width spec bags ≤ MAX_COLUMNS
     → result spec bags captures ≡ Some type → IsBagType type
 result_fits (op.Scalar expr) bags captures type given h e = scalars_fit (type_in [] captures expr) type e
 result_fits (op.Read name types) bags captures type given h e = if_fits (is_a Text (type_in [] captures name)) types type h e

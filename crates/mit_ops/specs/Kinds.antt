@@ -1,5 +1,5 @@
--- The kinds of operators: their numbers, how many bags they take, and which captured scalars they name.
-use Rattle.std.specs.Prelude.{ℕ, ◌+◌, List, fold, max}
+-- The kinds of operators: their numbers, how many bags they take, their expressions, and which captured scalars those name.
+use Rattle.std.specs.Prelude.{ℕ, ◌+◌, List, [], ◌∷◌, fold, max}
 use Rattle.mit_expr.specs.declared.expr.Expr.{Expr}
 use Rattle.mit_expr.specs.declared.expr.Expr.TheFolds.{fold-Expr}
 use Rattle.mit_expr.specs.declared.expr.Expr.TheOpen.{Expr-F}
@@ -55,17 +55,22 @@ captures_in = fold-Expr ℕ capture_step
 abbrev pub captures_in_all : List Expr → ℕ
 captures_in_all = fold (λ most expr. max most (captures_in expr)) 0
 
-abbrev pub captures_in_flat : Flat → ℕ
-captures_in_flat (Words expr separator) = captures_in expr
-captures_in_flat (Range from to) = max (captures_in from) (captures_in to)
+-- what a flat map evaluates, in order
+abbrev pub exprs_in : Flat → List Expr
+exprs_in (Words expr separator) = expr ∷ []
+exprs_in (Range from to) = from ∷ to ∷ []
 
--- the same of all expressions of an operator
+-- the expressions of an operator, in order
+abbrev pub exprs_of : OpSpec → List Expr
+exprs_of (op.Scalar expr) = expr ∷ []
+exprs_of (op.Read name types) = name ∷ []
+exprs_of (op.Map exprs) = exprs
+exprs_of (op.Filter expr) = expr ∷ []
+exprs_of (op.FlatMap flat) = exprs_in flat
+exprs_of (op.MakeRow exprs) = exprs
+exprs_of (op.Write name) = name ∷ []
+exprs_of _ = []
+
+-- one more than the greatest captured scalar that an operator names, or 0
 abbrev pub captures_of : OpSpec → ℕ
-captures_of (op.Scalar expr) = captures_in expr
-captures_of (op.Read name types) = captures_in name
-captures_of (op.Map exprs) = captures_in_all exprs
-captures_of (op.Filter expr) = captures_in expr
-captures_of (op.FlatMap flat) = captures_in_flat flat
-captures_of (op.MakeRow exprs) = captures_in_all exprs
-captures_of (op.Write name) = captures_in name
-captures_of _ = 0
+captures_of operator = captures_in_all (exprs_of operator)

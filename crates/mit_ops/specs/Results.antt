@@ -2,6 +2,7 @@
 use Rattle.std.specs.Prelude.{◌≡◌, ◌≤◌, ⊤, ℕ, ◌+◌, List, [], ◌∷◌, ◌++◌, length, All, Bool, true, false, IsTrue, Option, Some, None, option_map, Result, Err, slice_get, nat_lt, if◌then◌else◌}
 use Rattle.std.specs.Cmp.Lexicographic.{pointwise}
 use Rattle.std.specs.Option.{ok_or}
+use Rattle.mit_rows.specs.declared.row.TheConstants.{MAX_COLUMNS}
 use Rattle.mit_rows.specs.declared.value.ColType.{ColType}
 use Rattle.mit_rows.specs.declared.value.ColType.TheVariants.{Int, Text, Bool as Truth}
 use Rattle.mit_expr.specs.Types.{same_type, type_in, where_are, where_is}
@@ -11,13 +12,14 @@ use Rattle.mit_ops.specs.declared.kinds.Flat.{Flat}
 use Rattle.mit_ops.specs.declared.kinds.Flat.TheVariants.{Words, Range}
 use Rattle.mit_ops.specs.declared.kinds.OpSpec.{OpSpec}
 use Rattle.mit_ops.specs.declared.kinds.OpSpec.TheVariants as op
+use Rattle.mit_ops.specs.declared.types.TheConstants.{MAX_CAPTURES}
 use Rattle.mit_ops.specs.declared.types.VarType.{VarType}
 use Rattle.mit_ops.specs.declared.types.OpRefused.{OpRefused}
 use Rattle.mit_ops.specs.declared.types.OpRefused.TheVariants.{TooLarge, TooManyColumns, WrongType, NoMemory}
 
--- at most 16 columns, and exactly one where it is a scalar
+-- at most `MAX_COLUMNS` columns, and exactly one where it is a scalar
 abbrev pub IsBagType : VarType → Type 0
-IsBagType type = (length type.cols ≤ 16) × (IsTrue type.scalar → length type.cols ≡ 1)
+IsBagType type = (length type.cols ≤ MAX_COLUMNS) × (IsTrue type.scalar → length type.cols ≡ 1)
 
 abbrev pub AreBags : List VarType → Type 0
 AreBags = All IsBagType
@@ -128,18 +130,27 @@ width (op.Empty types) bags = length types
 width _ bags = 0
 
 abbrev pub is_wide : OpSpec → List VarType → Bool
-is_wide spec bags = nat_lt 16 (width spec bags)
+is_wide spec bags = nat_lt MAX_COLUMNS (width spec bags)
+
+-- why an operator has no result
+pub data Refusal : Type 0 where
+  -- it captures more than `MAX_CAPTURES` scalars
+  too_large : Refusal
+  -- it names or makes more than `MAX_COLUMNS` columns
+  too_many_columns : Refusal
+  -- no kind gives a type
+  wrong_type : Refusal
 
 -- the type of what an operator gives, or why it is refused
-abbrev pub typed_as : OpSpec → List VarType → List ColType → Result VarType OpRefused
+abbrev pub typed_as : OpSpec → List VarType → List ColType → Result VarType Refusal
 typed_as spec bags captures =
-    if nat_lt 16 (length captures) then Err TooLarge
-    else if is_wide spec bags then Err TooManyColumns
-    else ok_or (result spec bags captures) WrongType
+    if nat_lt MAX_CAPTURES (length captures) then Err too_large
+    else if is_wide spec bags then Err too_many_columns
+    else ok_or (result spec bags captures) wrong_type
 
--- a refusal is the one that is due; want of memory says nothing
-abbrev pub Refuses : Result VarType OpRefused → OpRefused → Type 0
-Refuses due TooLarge = due ≡ Err TooLarge
-Refuses due TooManyColumns = due ≡ Err TooManyColumns
-Refuses due WrongType = due ≡ Err WrongType
+-- a refusal is the one that is due; out of memory says nothing
+abbrev pub Refuses : Result VarType Refusal → OpRefused → Type 0
+Refuses due TooLarge = due ≡ Err too_large
+Refuses due TooManyColumns = due ≡ Err too_many_columns
+Refuses due WrongType = due ≡ Err wrong_type
 Refuses due NoMemory = ⊤

@@ -21,7 +21,7 @@ pub enum Flat {
     Range {
         /// The first number, over the row's columns.
         from: Expr,
-        /// The number behind the last one.
+        /// The number after the last one.
         to: Expr,
     },
 }
@@ -95,7 +95,7 @@ impl Flat {
 
     // One more than the greatest captured scalar that it names, or 0.
     fn captures(&self) -> u32
-        ensures { result ≡ spec.captures_in_flat self.now }
+        ensures { result ≡ spec.captures_in_all (spec.exprs_in self.now) }
     {
         match self {
             Flat::Words { expr, .. } => captures_in(expr),

@@ -1,6 +1,6 @@
 //! How a block of operators is left.
 
-/// Where a script goes on behind a block. Blocks are counted from 0.
+/// Where a script goes on after a block. Blocks are counted from 0.
 #[derive(Clone, Copy, Debug, PartialEq, Eq)]
 pub enum Leave {
     /// Always at this block.
@@ -12,6 +12,6 @@ pub enum Leave {
         /// The block where it is false.
         on_false: u32,
     },
-    /// Nowhere: the script ends behind this block.
+    /// Nowhere: the script ends after this block.
     End,
 }

@@ -11,7 +11,4 @@ pub use faults::{FaultKind, OpFault, ScriptFault};
 pub use kinds::{Agg, Flat, OpSpec};
 pub use leave::Leave;
 pub use lists::{ColTypes, Columns, Exprs};
-pub use types::{OpRefused, VarType, result_type};
-
-#[cfg(test)]
-mod tests;
+pub use types::{MAX_CAPTURES, OpRefused, VarType, result_type};

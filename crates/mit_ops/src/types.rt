@@ -11,8 +11,8 @@ use mit_expr::{Expr, type_of};
 use mit_rows::{ColType, MAX_COLUMNS};
 use std::alloc::{AllocError, Global};
 
-// The most captured scalars of an operator.
-const MAX_CAPTURES: usize = 16;
+/// The most captured scalars of an operator.
+pub const MAX_CAPTURES: usize = 16;
 
 /// The type of a bag or of a scalar. A scalar may stand where a bag is wanted: it is a bag of one row.
 #[derive(Debug, Drop)]
@@ -26,9 +26,9 @@ pub struct VarType {
 /// Why an operator has no result.
 #[derive(Clone, Copy, Debug, PartialEq, Eq)]
 pub enum OpRefused {
-    /// It captures more than 16 scalars.
+    /// It captures more than `MAX_CAPTURES` scalars.
     TooLarge,
-    /// It names or gives more than 16 columns.
+    /// It names or gives more than `MAX_COLUMNS` columns.
     TooManyColumns,
     /// An expression has no type or another one than is wanted, a column is not in its bag, columns differ in number or
     /// type where they must not, or a separator is not one byte of ASCII.
