@@ -10,7 +10,7 @@ use Rattle.mit_lex.specs.declared.symbol.TheConstants as symbol
 use Rattle.mit_lex.specs.declared.keyword.TheConstants as word
 use Rattle.mit_script.specs.Grammar.{Kinds, operator_token, call_token}
 use Rattle.mit_script.specs.Reading.{behind, call_of_word, of_rank, operator_at, operator_of_symbol, operator_of_word, ranked_operator}
-use Rattle.mit_script.specs.Words.{rank_of}
+use Rattle.mit_script.specs.Grammar.{rank_of}
 use Rattle.mit_script.proofs.Readers.{first_of, found_at, some_or_none}
 
 -- ---- tables

@@ -7,7 +7,7 @@ use Rattle.mit_expr.specs.declared.expr.Expr.TheVariants as expr
 use Rattle.mit_lex.specs.declared.keyword.TheConstants as word
 use Rattle.mit_script.specs.Grammar.{Kinds, SpellsExpr, stronger, binary, negated, truth_literal, called, operator_token}
 use Rattle.mit_script.specs.Reading.{sees_word}
-use Rattle.mit_script.specs.Words.{left_rank, rank_of, right_rank}
+use Rattle.mit_script.specs.Grammar.{left_rank, rank_of, right_rank}
 use Rattle.mit_script.proofs.ExprFacts.{rank_below}
 
 -- an operator of this rank and an operand behind it, any number of times, from what stands left of them to the whole

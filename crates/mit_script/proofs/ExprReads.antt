@@ -10,7 +10,7 @@ use Rattle.mit_lex.specs.declared.symbol.TheConstants as symbol
 use Rattle.mit_lex.specs.declared.keyword.TheConstants as word
 use Rattle.mit_script.specs.Grammar.{Kinds, SpellsExpr, stronger, negated, positive, negative, text_literal, truth_literal, column_place, captured_name, called, enclosed, operator_token, call_token}
 use Rattle.mit_script.specs.Reading.{Reading, ◌>>=◌, alone, any_expression, behind, call_by, call_of_word, called_at, chain, chain_by, chain_from, compared, comparison, enclosed_at, expect_symbol, expression, negation, negative_at, primary, ranked, ranked_operator, sees_word}
-use Rattle.mit_script.specs.Words.{rank_of}
+use Rattle.mit_script.specs.Grammar.{rank_of}
 use Rattle.mit_script.proofs.Readers.{Bounded, IsSymbol, Reads, Whatever, left_below, reads_as, reads_behind, reads_if, reads_made, reads_none, reads_symbol, reads_then, reads_token, reads_where, refuses, refuses_end, refuses_token, word_local, word_seen}
 use Rattle.mit_script.proofs.ExprFacts.{EndsRank, call_found, ends_here, ends_not, rank_below, ranked_ahead, ranked_operator-first, ranked_operator-token}
 use Rattle.mit_script.proofs.ExprForms.{Chain, chain_spelled, comparison_spelled, more, no_more, spelled_long}

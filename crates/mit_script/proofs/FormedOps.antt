@@ -144,12 +144,22 @@ record CountedAll (exprs : List Expr) (numbers : List ℕ) : Type 0 where
   uses : flat_map uses_in exprs ≡ numbers
   captures : (most : ℕ) → fold (λ most e. max most (captures_in e)) most exprs ≡ max most (bound_of numbers)
 
+counted_one : {e : Expr} {numbers : List ℕ} → Counted e numbers → CountedAll (e ∷ []) numbers
+counted_one one = record { uses = rw append-nil one.uses; captures = λ most. ap (max most) one.captures }
+
+counted_two : {from to : Expr} {numbers others : List ℕ} → Counted from numbers → Counted to others → CountedAll (from ∷ to ∷ []) (numbers ++ others)
+counted_two {from} {to} {numbers} {others} one two = record {
+  uses = rw (append-nil (uses_in to), one.uses, two.uses) refl;
+  captures = λ most. rw (one.captures, two.captures, bound_of-append numbers others) (omega arith);
+}
+
+captured_all : {exprs : List Expr} {numbers : List ℕ} → CountedAll exprs numbers → fold (λ most e. max most (captures_in e)) 0 exprs ≡ bound_of numbers
+captured_all all = all.captures 0 ∙ omega arith
+
 exprs_counted : {number : List ℕ → ℕ} {exprs : List Expr} {tokens : Kinds} → Listed (SpellsExpr number 0) exprs tokens
     → CountedAll exprs (map number (names_in tokens))
 unfolding names_in
-exprs_counted (Grammar.single e) =
-    let one = expr_counted e in
-    record { uses = rw append-nil one.uses; captures = λ most. ap (max most) one.captures }
+exprs_counted (Grammar.single e) = counted_one (expr_counted e)
 exprs_counted {number} (Grammar.and_more {items = items} {tokens = tokens} {others = others} e more) =
     let one = expr_counted e in
     let rest = exprs_counted more in
@@ -172,26 +182,22 @@ none_left (name ∷ other ∷ names) one = absurd (omega arith)
 pub right_counted : {number : List ℕ → ℕ} {op : OpSpec} {tokens : Kinds} → SpellsRight number op tokens → CountedOp number op (names_in tokens)
 unfolding names_in
 right_counted (Grammar.read_form {tokens = tokens} {others = others} name types) =
-    let e = expr_counted name in
+    let all = counted_one (expr_counted name) in
     rw (names_enclosed _ _ refl, names_enclosed tokens _ (listed_unnamed {Item = SpellsType} type_unnamed types))
-    (record { enough = omega arith; uses = e.uses; captures = e.captures })
+    (record { enough = omega arith; uses = all.uses; captures = captured_all all })
 right_counted (Grammar.map_form {tokens = tokens} bag exprs) =
     let all = exprs_counted exprs in
-    rw (names_enclosed tokens _ refl) (record { enough = omega arith; uses = all.uses; captures = all.captures 0 ∙ omega arith })
+    rw (names_enclosed tokens _ refl) (record { enough = omega arith; uses = all.uses; captures = captured_all all })
 right_counted (Grammar.filter_form bag e) =
-    let one = expr_counted e in
-    record { enough = omega arith; uses = one.uses; captures = one.captures }
+    let all = counted_one (expr_counted e) in
+    record { enough = omega arith; uses = all.uses; captures = captured_all all }
 right_counted (Grammar.words_form {tokens = tokens} bag separator e) =
-    let one = expr_counted e in
-    rw (names_enclosed tokens _ refl) (record { enough = omega arith; uses = one.uses; captures = one.captures })
+    let all = counted_one (expr_counted e) in
+    rw (names_enclosed tokens _ refl) (record { enough = omega arith; uses = all.uses; captures = captured_all all })
 right_counted {number} (Grammar.range_form {tokens = tokens} {others = others} bag from to) =
-    let one = expr_counted from in
-    let two = expr_counted to in
-    rw (names_in-append tokens _) (record {
-      enough = omega arith;
-      uses = rw (one.uses, two.uses) (sym (map-append number (names_in tokens) (names_in others)));
-      captures = rw (one.captures, two.captures, map-append) (sym (bound_of-append _ _));
-    })
+    let all = counted_two (expr_counted from) (expr_counted to) in
+    let apart = sym (map-append number (names_in tokens) (names_in others)) in
+    rw (names_in-append tokens _) (record { enough = omega arith; uses = all.uses ∙ apart; captures = captured_all all ∙ ap bound_of apart })
 right_counted (Grammar.join_form {tokens = tokens} {others = others} bag other left right) =
     rw (names_in-append tokens _, listed_unnamed {Item = SpellsColumn} column_unnamed left, listed_unnamed {Item = SpellsColumn} column_unnamed right)
     (record { enough = omega arith; uses = refl; captures = refl })
@@ -205,23 +211,23 @@ right_counted (Grammar.count_form bag) = record { enough = omega arith; uses = r
 right_counted (Grammar.sum_form bag column) = record { enough = omega arith; uses = refl; captures = refl }
 right_counted (Grammar.row_form {tokens = tokens} exprs) =
     let all = exprs_counted exprs in
-    rw (names_enclosed tokens _ refl) (record { enough = omega arith; uses = all.uses; captures = all.captures 0 ∙ omega arith })
+    rw (names_enclosed tokens _ refl) (record { enough = omega arith; uses = all.uses; captures = captured_all all })
 right_counted (Grammar.empty_form {tokens = tokens} types) =
     rw (names_enclosed tokens _ refl, listed_unnamed {Item = SpellsType} type_unnamed types) (record { enough = omega arith; uses = refl; captures = refl })
 right_counted {tokens = tokens} (Grammar.copy_form named e) =
     let one : length (names_in tokens) ≡ 1 = single_named e named in
     record { enough = omega arith; uses = rw none_left refl; captures = rw none_left refl }
 right_counted (Grammar.scalar_form unnamed e) =
-    let one = expr_counted e in
-    record { enough = omega arith; uses = one.uses; captures = one.captures }
+    let all = counted_one (expr_counted e) in
+    record { enough = omega arith; uses = all.uses; captures = captured_all all }
 
 pub write_counted : {number : List ℕ → ℕ} {op : OpSpec} {tokens : Kinds} → SpellsWrite number op tokens → CountedOp number op (names_in tokens)
 unfolding names_in
 write_counted (Grammar.write_form bag name) =
-    let one = expr_counted name in
-    record { enough = omega arith; uses = one.uses; captures = one.captures }
+    let all = counted_one (expr_counted name) in
+    record { enough = omega arith; uses = all.uses; captures = captured_all all }
 
 pub condition_counted : {number : List ℕ → ℕ} {op : OpSpec} {tokens : Kinds} → SpellsCondition number op tokens → CountedOp number op (names_in tokens)
 condition_counted (Grammar.condition_form e) =
-    let one = expr_counted e in
-    record { enough = omega arith; uses = one.uses; captures = one.captures }
+    let all = counted_one (expr_counted e) in
+    record { enough = omega arith; uses = all.uses; captures = captured_all all }

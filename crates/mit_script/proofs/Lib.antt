@@ -1,6 +1,5 @@
 pub mod StmtTexts
 pub mod Heads
-pub mod FormedExample
 pub mod Readers
 pub mod ExprFacts
 pub mod ExprForms
@@ -23,7 +22,7 @@ pub mod StmtOperation
 pub mod StmtForms
 pub mod StmtBodies
 pub mod ScriptReading
-pub mod PrintWords
+pub mod PrintSame
 pub mod PrintNames
 pub mod PrintExprs
 pub mod PrintOps

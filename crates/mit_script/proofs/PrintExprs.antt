@@ -1,5 +1,5 @@
 -- The printed tokens of an expression spell it.
-use Rattle.std.proofs.Common.{◌≡◌, ◌≤◌, ◌^◌, ◌+◌, ◌-◌, ℕ, zero, suc, pos, neg_ℤ, List, [], ◌∷◌, ◌++◌, codes, ltb, lit<, refl, sym, ap, ◌∙◌, arith, inl, inr}
+use Rattle.std.proofs.Common.{◌≡◌, ◌≤◌, ◌^◌, ◌+◌, ◌-◌, ℕ, zero, suc, pos, neg_ℤ, List, [], ◌∷◌, ◌++◌, ltb, lit<, sym, ap, ◌∙◌, arith, inl, inr}
 use Rattle.std.specs.List.{AllByRecursion as Each}
 use Rattle.std.proofs.lemmas.Bool.{cases_Bool}
 use Rattle.std.proofs.lemmas.Bool.Decides.{nat_tests}
@@ -13,16 +13,15 @@ use Rattle.mit_expr.specs.declared.expr.Expr.TheVariants.{rolls-Bin, rolls-Lit, 
 use Rattle.mit_expr.specs.declared.expr.Expr.TheFolds.{fold-roll-Expr, map-Expr}
 use Rattle.mit_expr.specs.declared.expr.Expr.TheOpen.{Expr-F}
 use Rattle.mit_expr.specs.declared.expr.Expr.TheOpen as layer
-use Rattle.mit_lex.specs.Tables.{keywords, symbols}
 use Rattle.mit_lex.specs.Valid.{IsToken}
 use Rattle.mit_lex.specs.declared.token.TokenKind.TheVariants.{Number, Symbol}
 use Rattle.mit_lex.specs.declared.symbol.TheConstants as symbol
-use Rattle.mit_script.specs.Grammar.{Kinds, SpellsExpr, names_in, stronger, binary, negated, positive, negative, text_literal, truth_literal, column_place, captured_name, called, enclosed}
-use Rattle.mit_script.specs.Words as words
-use Rattle.mit_script.specs.Words.{Tokens, left_rank, named, rank_of, ranked_tokens, expr_step, right_rank, literal_tokens}
+use Rattle.mit_script.specs.Grammar.{Kinds, SpellsExpr, left_rank, names_in, rank_of, right_rank, stronger, binary, negated, positive, negative, text_literal, truth_literal, column_place, captured_name, called, enclosed}
+use Rattle.mit_script.specs.PrintedTokens as printed
+use Rattle.mit_script.specs.PrintedTokens.{argument_name, ranked_tokens, expr_step, literal_tokens}
 use Rattle.mit_script.proofs.NamesOnce.{names_in-append, names_in-operator}
-use Rattle.mit_script.proofs.PrintNames.{each_back, each_front, names_in-called, names_in-cons, names_in-enclosed, names_in-name, names_in-signed}
-use Rattle.mit_script.proofs.PrintWords.{Alike, Reprint, alike_append, alike_cons, alike_nil, call_written, each_append, operator_written, reprint, truth_written}
+use Rattle.mit_script.proofs.PrintNames.{each_append, each_back, each_front, names_in-called, names_in-cons, names_in-enclosed, names_in-name, names_in-signed}
+use Rattle.mit_script.proofs.PrintSame.{Reprint, Same, reprint, same_append, same_cons, same_refl}
 
 -- ---- ranks
 
@@ -39,51 +38,46 @@ weaken number rank want e tokens low spelled =
     let same : want + (rank - want) ≡ rank = omega arith in weaker number (rank - want) rank want e tokens same spelled
 
 -- what stands alone fits everywhere
-alone : {number : List ℕ → ℕ} {e : Expr} {texts : Tokens} {tokens : Kinds} → (want : ℕ) → want ≤ 7 → Reprint (SpellsExpr number 7 e) texts tokens
-    → Reprint (SpellsExpr number want e) texts tokens
-alone {number = number} {e = e} want low one = reprint (weaken number 7 want e one.kinds low one.spelled) one.alike
+alone : {number : List ℕ → ℕ} {e : Expr} {kinds tokens : Kinds} → (want : ℕ) → want ≤ 7 → Reprint (SpellsExpr number 7 e) kinds tokens
+    → Reprint (SpellsExpr number want e) kinds tokens
+alone {number = number} {e = e} {kinds = kinds} want low one = reprint (weaken number 7 want e kinds low one.spelled) one.same
+
+-- a token that stands alone is printed as it is
+as_it_is : {number : List ℕ → ℕ} {e : Expr} {tokens : Kinds} → (want : ℕ) → want ≤ 7 → SpellsExpr number 7 e tokens
+    → Reprint (SpellsExpr number want e) tokens tokens
+as_it_is want low spelled = alone want low (reprint spelled same_refl)
 
 -- tokens in parentheses have the same names
-in_parentheses : (texts : Tokens) (kinds tokens : Kinds) → Alike texts kinds tokens
-    → Alike (codes "(" ∷ texts ++ codes ")" ∷ []) (Symbol symbol.LEFT_PAREN ∷ kinds ++ Symbol symbol.RIGHT_PAREN ∷ []) tokens
-unfolding symbols
-in_parentheses texts kinds tokens alike =
-    let end = Symbol symbol.RIGHT_PAREN ∷ [] in
-    let whole = alike_cons {bytes = codes "("} {kind = Symbol symbol.LEFT_PAREN} refl (alike_append alike (alike_cons {bytes = codes ")"} {kind = Symbol symbol.RIGHT_PAREN} refl alike_nil)) in
-    record {
-      words = whole.words;
-      same = record {
-        names = names_in-enclosed kinds ∙ alike.same.names;
-        valid = λ valid. (lit< tt, each_append kinds end (alike.same.valid valid) (lit< tt, tt));
-      };
-    }
+in_parentheses : {kinds tokens : Kinds} → Same kinds tokens → Same (Symbol symbol.LEFT_PAREN ∷ kinds ++ Symbol symbol.RIGHT_PAREN ∷ []) tokens
+in_parentheses {kinds = kinds} same = record {
+  names = names_in-enclosed kinds ∙ same.names;
+  valid = λ valid. (lit< tt, each_append IsToken kinds (Symbol symbol.RIGHT_PAREN ∷ []) (same.valid valid) (lit< tt, tt));
+}
 
 -- an operator is put in parentheses where a higher rank is wanted
-enclosed_if : {number : List ℕ → ℕ} {e : Expr} {texts : Tokens} {tokens : Kinds} → (rank want : ℕ) → want ≤ 7
-    → Reprint (SpellsExpr number rank e) texts tokens → Reprint (SpellsExpr number want e) (words.enclosed (ltb rank want) texts) tokens
-enclosed_if {number = number} {e = e} {texts = texts} {tokens = tokens} rank want low one =
+enclosed_if : {number : List ℕ → ℕ} {e : Expr} {kinds tokens : Kinds} → (rank want : ℕ) → want ≤ 7
+    → Reprint (SpellsExpr number rank e) kinds tokens → Reprint (SpellsExpr number want e) (printed.enclosed (ltb rank want) kinds) tokens
+enclosed_if {number = number} {e = e} {kinds = kinds} rank want low one =
     elim (cases_Bool (ltb rank want)) [
-      | inl above ↦ rw above
-          (alone want low (reprint (enclosed (weaken number rank 0 e one.kinds (omega arith) one.spelled)) (in_parentheses texts one.kinds tokens one.alike)))
-      | inr below ↦ rw (below, append-nil texts) (reprint (weaken number rank want e one.kinds (grind (arith, nat_tests)) one.spelled) one.alike)
+      | inl above ↦ rw above (alone want low (reprint (enclosed (weaken number rank 0 e kinds (omega arith) one.spelled)) (in_parentheses one.same)))
+      | inr below ↦ rw (below, append-nil kinds) (reprint (weaken number rank want e kinds (grind (arith, nat_tests)) one.spelled) one.same)
     ]
 
 -- ---- the printed forms
 
--- an expression's words, by those of the layer that it is made of
-layer_words : (names : Tokens) (captured : List ℕ) (want : ℕ) {e : Expr} → (top : Expr-F Expr) → roll-Expr top ≡ e
-    → ranked_tokens names captured e want ≡ expr_step names captured (map-Expr Expr (ℕ → Tokens) (ranked_tokens names captured) top) want
-layer_words names captured want top is =
-    ap (λ e. ranked_tokens names captured e want) (sym is) ∙ ap (λ (f : ℕ → Tokens). f want) (fold-roll-Expr (ℕ → Tokens) (expr_step names captured) top)
+-- an expression's tokens, by those of the layer that it is made of
+layer_tokens : (names : List (List ℕ)) (captured : List ℕ) (want : ℕ) {e : Expr} → (top : Expr-F Expr) → roll-Expr top ≡ e
+    → ranked_tokens names captured e want ≡ expr_step names captured (map-Expr Expr (ℕ → Kinds) (ranked_tokens names captured) top) want
+layer_tokens names captured want top is =
+    ap (λ e. ranked_tokens names captured e want) (sym is) ∙ ap (λ (f : ℕ → Kinds). f want) (fold-roll-Expr (ℕ → Kinds) (expr_step names captured) top)
 
 -- ---- integers
 
 int_reprint : (number : List ℕ → ℕ) (size : ℕ) → size ≤ 2 ^ 63
     → Reprint (SpellsExpr number 7 (expr.Lit (value.Int (neg_ℤ (pos size))))) (literal_tokens (value.Int (neg_ℤ (pos size)))) (Symbol symbol.MINUS ∷ Number size ∷ [])
-unfolding symbols
 int_reprint number zero most =
-    reprint (positive 0 (omega arith)) (record { words = refl; same = record { names = names_in-signed 0; valid = λ valid. valid.1 } })
-int_reprint number (suc size) most = reprint (negative (suc size) most) (alike_cons refl (alike_cons refl alike_nil))
+    reprint (positive 0 (omega arith)) (record { names = names_in-signed 0; valid = λ valid. valid.1 })
+int_reprint number (suc size) most = reprint (negative (suc size) most) same_refl
 
 -- ---- expressions
 
@@ -96,48 +90,43 @@ low_right Add = omega arith
 low_right _ = omega arith
 
 -- the name is printed for its number among the captured ones
-abbrev pub FindsName : Tokens → List ℕ → (List ℕ → ℕ) → List ℕ → Type 0
-FindsName names captured number name = named names captured (number name) ≡ name
+abbrev pub FindsName : List (List ℕ) → List ℕ → (List ℕ → ℕ) → List ℕ → Type 0
+FindsName names captured number name = argument_name names captured (number name) ≡ name
 
-pub expr_reprint : (names : Tokens) (captured : List ℕ) (number : List ℕ → ℕ) {rank : ℕ} {e : Expr} {tokens : Kinds} → SpellsExpr number rank e tokens
+pub expr_reprint : (names : List (List ℕ)) (captured : List ℕ) (number : List ℕ → ℕ) {rank : ℕ} {e : Expr} {tokens : Kinds} → SpellsExpr number rank e tokens
     → Each (FindsName names captured number) (names_in tokens) → (want : ℕ) → want ≤ 7
     → Reprint (SpellsExpr number want e) (ranked_tokens names captured e want) tokens
-unfolding symbols keywords
 expr_reprint names captured number (stronger spelled) known want low = expr_reprint names captured number spelled known want low
 expr_reprint names captured number (binary {left = a} {right = b} {tokens = first} {others = second} op left right) known want low =
     let finds = FindsName names captured number in
     let split = rw (names_in-append, names_in-operator) at known in
     let one = expr_reprint names captured number left (each_front finds (names_in first) (names_in second) split) (left_rank op) (low_left op) in
     let two = expr_reprint names captured number right (each_back finds (names_in first) (names_in second) split) (right_rank op) (low_right op) in
-    rw (layer_words names captured want (layer.Bin op a b) (rolls-Bin op a b)) (enclosed_if (rank_of op) want low
-    (reprint (binary op one.spelled two.spelled) (alike_append one.alike (alike_cons (operator_written op) two.alike))))
+    rw (layer_tokens names captured want (layer.Bin op a b) (rolls-Bin op a b))
+    (enclosed_if (rank_of op) want low (reprint (binary op one.spelled two.spelled) (same_append one.same (same_cons two.same))))
 expr_reprint names captured number (negated {e = a} spelled) known want low =
     let one = expr_reprint names captured number spelled (rw names_in-cons at known) 2 (omega arith) in
-    rw (layer_words names captured want (layer.Not a) (rolls-Not a)) (enclosed_if 2 want low (reprint (negated one.spelled) (alike_cons refl one.alike)))
+    rw (layer_tokens names captured want (layer.Not a) (rolls-Not a)) (enclosed_if 2 want low (reprint (negated one.spelled) (same_cons one.same)))
 expr_reprint names captured number (positive size small) known want low =
-    rw (layer_words names captured want (layer.Lit (value.Int (pos size))) (rolls-Lit (value.Int (pos size)))) (alone want low (reprint (positive size small) (alike_cons refl alike_nil)))
+    rw (layer_tokens names captured want (layer.Lit (value.Int (pos size))) (rolls-Lit (value.Int (pos size)))) (as_it_is want low (positive size small))
 expr_reprint names captured number (negative size most) known want low =
-    rw (layer_words names captured want (layer.Lit (value.Int (neg_ℤ (pos size)))) (rolls-Lit (value.Int (neg_ℤ (pos size))))) (alone want low (int_reprint number size most))
+    rw (layer_tokens names captured want (layer.Lit (value.Int (neg_ℤ (pos size)))) (rolls-Lit (value.Int (neg_ℤ (pos size))))) (alone want low (int_reprint number size most))
 expr_reprint names captured number (text_literal bytes) known want low =
-    rw (layer_words names captured want (layer.Lit (value.Text bytes)) (rolls-Lit (value.Text bytes))) (alone want low (reprint (text_literal bytes) (alike_cons refl alike_nil)))
+    rw (layer_tokens names captured want (layer.Lit (value.Text bytes)) (rolls-Lit (value.Text bytes))) (as_it_is want low (text_literal bytes))
 expr_reprint names captured number (truth_literal holds) known want low =
-    rw (layer_words names captured want (layer.Lit (value.Bool holds)) (rolls-Lit (value.Bool holds)))
-    (alone want low (reprint (truth_literal holds) (alike_cons (truth_written holds) alike_nil)))
+    rw (layer_tokens names captured want (layer.Lit (value.Bool holds)) (rolls-Lit (value.Bool holds))) (as_it_is want low (truth_literal holds))
 expr_reprint names captured number (column_place place) known want low =
-    rw (layer_words names captured want (layer.Column place) (rolls-Column place)) (alone want low (reprint (column_place place) (alike_cons refl alike_nil)))
+    rw (layer_tokens names captured want (layer.Column place) (rolls-Column place)) (as_it_is want low (column_place place))
 expr_reprint names captured number (captured_name name) known want low =
     let once = rw names_in-name at known in
-    rw (layer_words names captured want (layer.Capture (number name)) (rolls-Capture (number name)), once.0) (alone want low (reprint (captured_name name) (alike_cons refl alike_nil)))
+    rw (layer_tokens names captured want (layer.Capture (number name)) (rolls-Capture (number name)), once.0) (as_it_is want low (captured_name name))
 expr_reprint names captured number (called {e = a} function spelled) known want low =
     let one = expr_reprint names captured number spelled (rw names_in-called at known) 0 (omega arith) in
-    rw (layer_words names captured want (layer.Call function a) (rolls-Call function a)) (alone want low (reprint (called function one.spelled)
-    (alike_cons (call_written function) (alike_cons refl (alike_append one.alike (alike_cons refl alike_nil))))))
+    rw (layer_tokens names captured want (layer.Call function a) (rolls-Call function a))
+    (alone want low (reprint (called function one.spelled) (same_cons (same_cons (same_append one.same same_refl)))))
 expr_reprint names captured number (enclosed {tokens = inner} spelled) known want low =
     let one = expr_reprint names captured number spelled (rw names_in-enclosed at known) want low in
     reprint one.spelled (record {
-      words = one.alike.words;
-      same = record {
-        names = one.alike.same.names ∙ sym (names_in-enclosed inner);
-        valid = λ valid. one.alike.same.valid (each_front IsToken inner (Symbol symbol.RIGHT_PAREN ∷ []) valid.1);
-      };
+      names = one.same.names ∙ sym (names_in-enclosed inner);
+      valid = λ valid. one.same.valid (each_front IsToken inner (Symbol symbol.RIGHT_PAREN ∷ []) valid.1);
     })

@@ -8,11 +8,11 @@ use Rattle.mit_lex.specs.Tokens.{scanned, tokens_of}
 use Rattle.mit_lex.specs.Valid.{IsToken}
 use Rattle.mit_lex.specs.Written.{IsWrittenAs, no_more}
 use Rattle.mit_script.specs.Grammar.{IsSpelled, Kinds, each_once, names_in}
-use Rattle.mit_script.specs.Printed.{printed}
+use Rattle.mit_script.specs.Printed.{block_lines, printed}
 use Rattle.mit_script.specs.PrintsBack.{CanBeSpelled, KeepsLimits, PrintsBack, cut}
 use Rattle.mit_script.specs.declared.tree.Script.{Script}
 use Rattle.mit_script.proofs.PrintNames.{IsFound, once_found}
-use Rattle.mit_script.proofs.PrintStmts.{body_rewritten}
+use Rattle.mit_script.proofs.PrintStmts.{body_relined, lines_tokens, lines_written}
 
 found_names : (names : List (List ℕ)) (tokens : Kinds) → names ≡ each_once (names_in tokens) → Each (IsFound names) (names_in tokens)
 found_names names tokens is = rw is (once_found (names_in tokens))
@@ -26,13 +26,14 @@ pub record WritingLaw : Type 0 where
 -- what is printed prints back
 pub prints_back : WritingLaw → (script : Script) (text : List ℕ) → text ≡ printed script → CanBeSpelled script → PrintsBack script text
 prints_back law script text is can =
-    let one = body_rewritten script.names can.spelled.body (found_names script.names can.tokens can.spelled.named) [] no_more in
-    let valid = one.laid.same.valid (recursion_from_All IsToken can.tokens can.valid) in
-    let written : IsWrittenAs text one.kinds = rw is (one.laid.written valid) in
+    let all = body_relined script.names can.spelled.body (found_names script.names can.tokens can.spelled.named) [] no_more in
+    let lines = block_lines script.names script.body [] in
+    let valid = all.one.same.valid (recursion_from_All IsToken can.tokens can.valid) in
+    let laid : IsWrittenAs text (lines_tokens lines) = rw is (lines_written lines all.indented valid) in
     record {
-      utf8 = law.utf8 text one.kinds written;
-      whole = law.whole text one.kinds written;
-      spelled = rw (law.cut text one.kinds written) (record { named = rw one.laid.same.names can.spelled.named; body = one.spelled });
+      utf8 = law.utf8 text (lines_tokens lines) laid;
+      whole = law.whole text (lines_tokens lines) laid;
+      spelled = rw (law.cut text (lines_tokens lines) laid) (record { named = rw all.one.same.names can.spelled.named; body = all.one.spelled });
     }
 
 -- a text whose tokens keep the limits has just those

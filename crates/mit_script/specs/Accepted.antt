@@ -1,13 +1,12 @@
 -- Which scripts are accepted, with the types of their variables, and which statement is refused first, and why.
-use Rattle.std.specs.Prelude.{ℕ, ◌+◌, List, [], ◌∷◌, map, take, drop, zip, flat_map, Bool, true, false, not, ◌&&◌, if◌then◌else◌, Option, Some, None, unwrap_or, Result, Ok, Err, slice_get, slice_set}
+use Rattle.std.specs.Prelude.{ℕ, ◌+◌, List, [], ◌∷◌, length, map, take, drop, zip, flat_map, Bool, true, false, not, ◌&&◌, if◌then◌else◌, Option, Some, None, unwrap_or, is_some, nat_lt, Result, Ok, Err, slice_get, slice_set}
 use Rattle.std.specs.List.{list_all}
 use Rattle.mit_rows.specs.declared.value.ColType.TheVariants.{Bool as Truth}
 use Rattle.mit_ops.specs.Kinds.{bag_inputs_of}
-use Rattle.mit_ops.specs.Results.{same_types, typed_as}
+use Rattle.mit_ops.specs.Results.{Refusal, too_large, too_many_columns, wrong_type, same_types, typed_as}
 use Rattle.mit_ops.specs.declared.kinds.OpSpec.{OpSpec}
+use Rattle.mit_ops.specs.declared.types.TheConstants.{MAX_CAPTURES}
 use Rattle.mit_ops.specs.declared.types.VarType.{VarType}
-use Rattle.mit_ops.specs.declared.types.OpRefused.{OpRefused}
-use Rattle.mit_ops.specs.declared.types.OpRefused.TheVariants as refused
 use Rattle.mit_script.specs.declared.tree.Script.{Script}
 use Rattle.mit_script.specs.declared.tree.Stmt.{Stmt}
 use Rattle.mit_script.specs.declared.tree.Stmt.TheFolds.{fold-Stmt}
@@ -33,8 +32,9 @@ abbrev pub given : Option VarType → VarType
 given None = unset
 given (Some type) = type
 
-abbrev pub is_assigned : Known → ℕ → Bool
-is_assigned known variable = unwrap_or (slice_get known.assigned variable) false
+-- whether a variable is among the assigned ones
+abbrev pub is_assigned : List Bool → ℕ → Bool
+is_assigned assigned variable = unwrap_or (slice_get assigned variable) false
 
 -- the type of a variable's first assignment, where there was one
 abbrev pub first_type : Known → ℕ → Option VarType
@@ -47,23 +47,22 @@ type_of known variable = given (first_type known variable)
 abbrev pub bags_of : Known → OpSpec → List ℕ → List VarType
 bags_of known operator args = map (type_of known) (take (bag_inputs_of operator) args)
 
--- the captured variables, behind the bags
+-- the captured variables, which follow the bags
 abbrev pub captured : OpSpec → List ℕ → List ℕ
 captured operator args = drop (bag_inputs_of operator) args
 
-abbrev pub code_of : OpRefused → CheckCode
-code_of refused.TooLarge = TooLarge
-code_of refused.TooManyColumns = TooManyColumns
-code_of refused.WrongType = WrongType
-code_of refused.NoMemory = WrongType
+abbrev pub code_of : Refusal → CheckCode
+code_of too_large = TooLarge
+code_of too_many_columns = TooManyColumns
+code_of wrong_type = WrongType
 
 -- the type that was found, or the code of the refusal
-abbrev pub typed_or_code : Result VarType OpRefused → Result VarType CheckCode
+abbrev pub typed_or_code : Result VarType Refusal → Result VarType CheckCode
 typed_or_code (Ok type) = Ok type
 typed_or_code (Err why) = Err (code_of why)
 
 -- the type of what an operator gives over its arguments, where the captured ones are scalars
-abbrev pub typed_by : Known → OpSpec → List ℕ → Result VarType OpRefused
+abbrev pub typed_by : Known → OpSpec → List ℕ → Result VarType Refusal
 typed_by known operator args =
     typed_as operator (bags_of known operator args)
     (flat_map (λ variable. (type_of known variable).cols) (captured operator args))
@@ -71,8 +70,9 @@ typed_by known operator args =
 -- the same, or the first code against it
 abbrev pub judged : Known → OpSpec → List ℕ → Result VarType CheckCode
 judged known operator args =
-    if not (list_all (is_assigned known) args) then Err Unassigned
+    if not (list_all (is_assigned known.assigned) args) then Err Unassigned
     else if not (list_all (λ variable. (type_of known variable).scalar) (captured operator args)) then Err NotScalar
+    else if nat_lt MAX_CAPTURES (length (captured operator args)) then Err TooLarge
     else typed_or_code (typed_by known operator args)
 
 abbrev pub same_truth : Bool → Bool → Bool
@@ -88,14 +88,14 @@ is_kept (Some first) type = same_truth first.scalar type.scalar && same_types fi
 abbrev pub is_condition : VarType → Bool
 is_condition type = type.scalar && same_types type.cols (Truth ∷ [])
 
--- what is known behind one more statement, and behind an assignment
+-- what is known after one more statement, and after an assignment, which leaves the type of an earlier one
 abbrev pub passed : Known → Known
 passed known = record known { before = known.before + 1 }
 
 abbrev pub assigning : ℕ → VarType → Known → Known
 assigning target type known = record {
   assigned = slice_set known.assigned target true;
-  types = slice_set known.types target (Some type);
+  types = if is_some (first_type known target) then known.types else slice_set known.types target (Some type);
   before = known.before + 1;
 }
 
@@ -110,12 +110,12 @@ abbrev pub and_then : {A B E : Type 0} → Result A E → (A → Result B E) →
 and_then (Ok value) next = next value
 and_then (Err fault) next = Err fault
 
--- the same, where a code is the fault of the statement behind what is known
+-- the same, where a code is the fault of the statement after what is known
 abbrev pub fault_or : {A : Type 0} → Known → Result A CheckCode → Result A Fault
 fault_or known (Ok value) = Ok value
 fault_or known (Err code) = Err (fault_at known code)
 
--- what is known behind an assignment, a write, and a condition, or the fault
+-- what is known after an assignment, a write, and a condition, or the fault
 abbrev pub assigned_by : ℕ → OpSpec → List ℕ → Known → Result Known Fault
 assigned_by target operator args known =
     and_then (fault_or known (judged known operator args)) (λ type.
@@ -129,7 +129,7 @@ decided_by operator args known =
     and_then (fault_or known (judged known operator args)) (λ type.
     if is_condition type then Ok (passed known) else Err (fault_at known WrongType))
 
--- a check goes from what is known before to what is known behind, or to the first fault
+-- a check goes from what is known before to what is known after, or to the first fault
 abbrev pub Check : Type 0
 Check = Known → Result Known Fault
 
@@ -146,13 +146,13 @@ with_assigned assigned known = record known { assigned = assigned }
 abbrev pub both : List Bool → List Bool → List Bool
 both one other = map (λ pair. pair.0 && pair.1) (zip one other)
 
--- behind the first block of an `if` the second one begins with what was assigned before
+-- after the first block of an `if` the second one begins with what was assigned before
 abbrev pub rejoined : List Check → List Bool → Check
 rejoined on_false before one =
     and_then (in_order on_false (with_assigned before one)) (λ other.
     Ok (with_assigned (both one.assigned other.assigned) other))
 
--- behind the condition of an `if`, and of a `while`
+-- after the condition of an `if`, and of a `while`
 abbrev pub branched : List Check → List Check → Check
 branched on_true on_false inside = and_then (in_order on_true inside) (rejoined on_false inside.assigned)
 

@@ -1,5 +1,5 @@
 -- The grammar of scripts: which tokens spell which tree, one case for each form.
-use Rattle.std.specs.Prelude.{◌≡◌, ◌<◌, ◌≤◌, ℕ, suc, ◌^◌, pos, neg_ℤ, List, [], ◌∷◌, ◌++◌, map, filter, take, drop, Bool, true, false, not, bytes_eq, unwrap_or, position, Ok}
+use Rattle.std.specs.Prelude.{◌≡◌, ◌<◌, ◌≤◌, ℕ, suc, ◌+◌, ◌^◌, ◌==◌, pos, neg_ℤ, List, [], ◌∷◌, ◌++◌, map, filter, take, drop, Bool, true, false, not, bytes_eq, if◌then◌else◌, unwrap_or, position, Ok}
 use Rattle.mit_rows.specs.declared.value.Value.TheVariants as value
 use Rattle.mit_rows.specs.declared.value.ColType.{ColType}
 use Rattle.mit_rows.specs.declared.value.ColType.TheVariants.{Int, Text as Letters, Bool as Truth}
@@ -23,7 +23,6 @@ use Rattle.mit_lex.specs.declared.token.TokenKind.{TokenKind}
 use Rattle.mit_lex.specs.declared.token.TokenKind.TheVariants.{Name, Number, Column, Text, Symbol, Keyword}
 use Rattle.mit_lex.specs.declared.symbol.TheConstants as symbol
 use Rattle.mit_lex.specs.declared.keyword.TheConstants as word
-use Rattle.mit_script.specs.Words.{left_rank, rank_of, right_rank}
 use Rattle.mit_script.specs.declared.tree.Script.{Script}
 use Rattle.mit_script.specs.declared.tree.Stmt.{Stmt}
 use Rattle.mit_script.specs.declared.tree.Stmt.TheVariants as stmt
@@ -98,6 +97,31 @@ call_token call.Len = Keyword word.LEN
 abbrev pub truth_token : Bool → TokenKind
 truth_token true = Keyword word.TRUE
 truth_token false = Keyword word.FALSE
+
+-- how strongly an operator binds; `not` has rank 2, and what stands alone has rank 7
+abbrev pub rank_of : BinOp → ℕ
+rank_of operator.Or = 0
+rank_of operator.And = 1
+rank_of operator.Eq = 3
+rank_of operator.Ne = 3
+rank_of operator.Lt = 3
+rank_of operator.Le = 3
+rank_of operator.Gt = 3
+rank_of operator.Ge = 3
+rank_of operator.Concat = 4
+rank_of operator.Add = 5
+rank_of operator.Sub = 5
+rank_of operator.Mul = 6
+rank_of operator.Div = 6
+rank_of operator.Rem = 6
+
+-- the least rank that a left operand has without parentheses: chains group to the left, and comparisons are no chains
+abbrev pub left_rank : BinOp → ℕ
+left_rank op = if rank_of op == 3 then 4 else rank_of op
+
+-- and a right operand: one more than the operator's
+abbrev pub right_rank : BinOp → ℕ
+right_rank op = rank_of op + 1
 
 -- The tokens spell the expression where one of at least this rank is wanted: 0 is the rank of `or`, 1 of `and`, 2 of `not`,
 -- 3 of comparisons, 4 of `++`, 5 of `+` and `-`, 6 of `*`, `/` and `%`, and 7 of what stands alone. A captured name has a
@@ -198,7 +222,7 @@ pub record SpellsOver (Form : (List ℕ → ℕ) → OpSpec → Kinds → Type 0
 
 -- ---- statements
 
--- a statement; what stands behind the first block of an `if`; and statements one after another
+-- a statement; what stands after the first block of an `if`; and statements one after another
 mutual
   pub data SpellsStmt (names : List (List ℕ)) : Stmt → Kinds → Type 0 where
     assign : {op : OpSpec} {args : List ℕ} {tokens : Kinds} → (target : List ℕ) → SpellsOver SpellsRight names op args tokens
@@ -245,7 +269,7 @@ pub record IsSpelled (text : List ℕ) (script : Script) : Type 0 where
 abbrev pub CanGoOn : Kinds → Type 0
 CanGoOn front = (script : Script) × (more : Kinds) × Spells script (front ++ more)
 
--- behind these tokens the next one is refused: with it no spelled list begins; or there is none, and they spell no script
+-- after these tokens the next one is refused: with it no spelled list begins; or there is none, and they spell no script
 abbrev pub IsRefused : Kinds → Kinds → Type 0
 IsRefused front [] = (script : Script) → ¬ Spells script front
 IsRefused front (token ∷ rest) = ¬ CanGoOn (front ++ token ∷ [])

@@ -1,5 +1,5 @@
 pub mod Trees
-pub mod Words
+pub mod PrintedTokens
 pub mod Printed
 pub mod PrintsBack
 pub mod Accepted

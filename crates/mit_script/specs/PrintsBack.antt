@@ -1,6 +1,7 @@
 -- What a printed script is read as.
 use Rattle.std.specs.Prelude.{◌≡◌, ◌≤◌, ℕ, List, length, map, All, true, None}
 use Rattle.std.specs.Str.{is_utf8}
+use Rattle.mit_lex.specs.declared.limits.TheConstants.{MAX_SCRIPT}
 use Rattle.mit_lex.specs.Limits.{first_too_many}
 use Rattle.mit_lex.specs.Tokens.{scanned}
 use Rattle.mit_lex.specs.Valid.{IsToken}
@@ -26,5 +27,5 @@ pub record PrintsBack (script : Script) (text : List ℕ) : Type 0 where
 
 -- the text is short enough for a script, and so are its runs of tokens and the blocks in one another
 pub record KeepsLimits (text : List ℕ) : Type 0 where
-  pub size : length text ≤ 1048576
+  pub size : length text ≤ MAX_SCRIPT
   pub runs : first_too_many 0 0 (cut text) ≡ None

@@ -1,5 +1,5 @@
--- How a script is read from its tokens, from left to right. Nothing here has to be believed: that what is read is what the
--- grammar spells, and where reading stops, is `laws::reading_law`.
+-- A device of the proofs: nobody has to believe it. How a script is read from its tokens, from left to right; that what is
+-- read is what the grammar spells, and where reading stops, is `laws::reading_law`.
 use Rattle.std.specs.Prelude.{ℕ, zero, suc, ◌-◌, ◌+◌, ◌^◌, pos, neg_ℤ, List, [], ◌∷◌, ◌++◌, length, take_while, Bool, true, false, not, nat_lt, nat_le, ◌==◌, ◌||◌, if◌then◌else◌, Option, Some, None, Result, Ok, Err}
 use Rattle.mit_rows.specs.declared.value.Value.TheVariants as value
 use Rattle.mit_rows.specs.declared.value.ColType.{ColType}
@@ -22,12 +22,12 @@ use Rattle.mit_lex.specs.declared.token.TokenKind.TheVariants.{Name, Number, Col
 use Rattle.mit_lex.specs.declared.symbol.TheConstants as symbol
 use Rattle.mit_lex.specs.declared.keyword.TheConstants as word
 use Rattle.mit_script.specs.Grammar.{Kinds, arguments_in, captured_in, each_once, is_name, names_in, number_in}
-use Rattle.mit_script.specs.Words.{rank_of}
+use Rattle.mit_script.specs.Grammar.{rank_of}
 use Rattle.mit_script.specs.declared.tree.Script.{Script}
 use Rattle.mit_script.specs.declared.tree.Stmt.{Stmt}
 use Rattle.mit_script.specs.declared.tree.Stmt.TheVariants as stmt
 
--- what was read and the tokens behind it, or the tokens from the refused one on
+-- what was read and the tokens after it, or the tokens from the refused one on
 abbrev pub Reading : Type 0 → Type 0
 Reading A = Result (A × Kinds) Kinds
 
@@ -86,7 +86,7 @@ unfoldable pub sees_word : ℕ → Kinds → Bool
 sees_word wanted (Keyword place ∷ rest) = place == wanted
 sees_word wanted _ = false
 
--- the tokens behind the next one
+-- the tokens after the next one
 abbrev pub behind : Kinds → Kinds
 behind [] = []
 behind (token ∷ rest) = rest
@@ -132,14 +132,14 @@ abbrev pub call_of_word : ℕ → Option Call
 call_of_word place =
     if place == word.TEXT then Some call.ToText else (if place == word.INT then Some call.ToInt else (if place == word.LEN then Some call.Len else None))
 
--- the size behind a `-`
+-- the size after a `-`
 unfoldable pub negative_at : Kinds → Reading Expr
 negative_at [] = Err []
 negative_at (Number size ∷ rest) =
     if nat_le size (2 ^ 63) then Ok (expr.Lit (value.Int (neg_ℤ (pos size))), rest) else Err (Number size ∷ rest)
 negative_at (token ∷ rest) = Err (token ∷ rest)
 
--- what stands behind a `(`
+-- what stands after a `(`
 unfoldable pub enclosed_at : (Kinds → Reading Expr) → Kinds → Reading Expr
 enclosed_at inner tokens = inner tokens >>= λ e. expect_symbol symbol.RIGHT_PAREN e.1 >>= λ end. Ok (e.0, end.1)
 
@@ -204,7 +204,7 @@ abbrev pub layer_at : (Kinds → Reading Expr) → ℕ → ℕ → (Kinds → Re
 layer_at inner turns rank operand =
     if rank == 2 then negation inner operand else (if rank == 3 then comparison operand else chain operand rank turns)
 
--- the rank is 7 less the second number; `inner` reads the expressions of the ranks behind a `(` and a `not`
+-- the rank is 7 less the second number; `inner` reads the expressions of the ranks after a `(` and a `not`
 unfoldable pub ranked : (ℕ → Kinds → Reading Expr) → (List ℕ → ℕ) → ℕ → ℕ → Kinds → Reading Expr
 ranked inner number turns zero tokens = primary (inner 7) number tokens
 ranked inner number turns (suc below) tokens = layer_at (inner 5) turns (6 - below) (ranked inner number turns below) tokens
@@ -267,7 +267,7 @@ agg_at [] = Err []
 agg_at (Keyword place ∷ rest) = agg_by place rest
 agg_at (token ∷ rest) = Err (token ∷ rest)
 
--- each form from the token behind its keyword on
+-- each form from the token after its keyword on
 unfoldable pub read_at : (List ℕ → ℕ) → ℕ → Kinds → Reading OpSpec
 read_at number most tokens =
     any_expression number most tokens >>= λ name. types_at most name.1 >>= λ types. Ok (kind.Read name.0 types.0, types.1)
@@ -372,7 +372,7 @@ assignment names most tokens =
 unfoldable pub write : List (List ℕ) → ℕ → Kinds → Reading Stmt
 write names most tokens = operation write_at symbol.SEMICOLON names most tokens >>= λ made. Ok (stmt.Write made.0.0 made.0.1, made.1)
 
--- the rest of a block, behind its `{`
+-- the rest of a block, after its `{`
 unfoldable pub block_at : (Kinds → Reading (List Stmt)) → Kinds → Reading (List Stmt)
 block_at inner tokens = inner tokens >>= λ body. expect_symbol symbol.RIGHT_BRACE body.1 >>= λ end. Ok (body.0, end.1)
 
@@ -380,7 +380,7 @@ unfoldable pub else_at : (Kinds → Reading (List Stmt)) → Kinds → Reading (
 else_at inner tokens =
     if sees_word word.ELSE tokens then (expect_symbol symbol.LEFT_BRACE (behind tokens) >>= λ opened. block_at inner opened.1) else Ok ([], tokens)
 
--- behind the words `if` and `while`
+-- after the words `if` and `while`
 unfoldable pub branch : (Kinds → Reading (List Stmt)) → List (List ℕ) → ℕ → Kinds → Reading Stmt
 branch inner names most tokens =
     operation condition_at symbol.LEFT_BRACE names most tokens >>= λ made. block_at inner made.1 >>= λ yes. else_at inner yes.1 >>= λ no.

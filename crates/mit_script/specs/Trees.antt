@@ -5,9 +5,8 @@ use Rattle.mit_expr.specs.declared.expr.Expr.{Expr}
 use Rattle.mit_expr.specs.declared.expr.Expr.TheFolds.{fold-Expr}
 use Rattle.mit_expr.specs.declared.expr.Expr.TheOpen.{Expr-F}
 use Rattle.mit_expr.specs.declared.expr.Expr.TheOpen as expr
-use Rattle.mit_ops.specs.Kinds.{bag_inputs_of, captures_of}
-use Rattle.mit_ops.specs.declared.kinds.Flat.{Flat}
-use Rattle.mit_ops.specs.declared.kinds.Flat.TheVariants.{Words, Range}
+use Rattle.mit_lex.specs.declared.limits.TheConstants.{MAX_SCRIPT}
+use Rattle.mit_ops.specs.Kinds.{bag_inputs_of, captures_of, exprs_of}
 use Rattle.mit_ops.specs.declared.kinds.OpSpec.{OpSpec}
 use Rattle.mit_ops.specs.declared.kinds.OpSpec.TheVariants as op
 use Rattle.mit_script.specs.declared.tree.Script.{Script}
@@ -35,7 +34,7 @@ count_of_all block = sum (map count_of block)
 abbrev pub statements_of : Script → ℕ
 statements_of script = count_of_all script.body
 
--- a statement without the blocks behind it
+-- a statement without its blocks
 pub data Head : Type 0 where
   assigns : ℕ → OpSpec → List ℕ → Head
   writes : OpSpec → List ℕ → Head
@@ -68,20 +67,9 @@ use_step (expr.Call function arg) = arg
 abbrev pub uses_in : Expr → List ℕ
 uses_in = fold-Expr (List ℕ) use_step
 
-abbrev pub uses_in_flat : Flat → List ℕ
-uses_in_flat (Words expr separator) = uses_in expr
-uses_in_flat (Range from to) = uses_in from ++ uses_in to
-
 -- the same of all expressions of an operator
 abbrev pub uses_of : OpSpec → List ℕ
-uses_of (op.Scalar expr) = uses_in expr
-uses_of (op.Read name types) = uses_in name
-uses_of (op.Map exprs) = flat_map uses_in exprs
-uses_of (op.Filter expr) = uses_in expr
-uses_of (op.FlatMap flat) = uses_in_flat flat
-uses_of (op.MakeRow exprs) = flat_map uses_in exprs
-uses_of (op.Write name) = uses_in name
-uses_of _ = []
+uses_of operator = flat_map uses_in (exprs_of operator)
 
 -- each of these numbers that did not occur before is the next one, counted from here
 abbrev pub is_in_order : ℕ → List ℕ → Bool
@@ -110,7 +98,7 @@ IsFormedHead variables (decides operator args) = (is_scalar operator ≡ true) �
 
 -- short enough, with names that differ, and each statement with an operator and arguments of its form
 pub record IsFormed (script : Script) : Type 0 where
-  pub short : statements_of script ≤ 1048576
+  pub short : statements_of script ≤ MAX_SCRIPT
   pub distinct : AllPairs (λ name other. name ≢ other) script.names
   pub formed : All (IsFormedHead (length script.names)) (heads_of script)
 

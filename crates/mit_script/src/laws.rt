@@ -1,9 +1,13 @@
 //! Laws of the grammar. Each is the contract of a function that does nothing.
-ghost use Rattle.std.specs.Prelude.{◌≡◌, ◌≤◌, length, MatchResult};
-ghost use Rattle.mit_script.specs.Grammar.{Kinds, Spells, StopsBefore};
+ghost use Rattle.std.specs.Prelude.{◌≡◌, ◌≤◌, ℕ, List, length, MatchResult};
+ghost use Rattle.mit_lex.specs.declared.limits.TheConstants.{MAX_SCRIPT};
+ghost use Rattle.mit_script.specs.Grammar.{IsSpelled, Kinds, Spells, StopsBefore};
+ghost use Rattle.mit_script.specs.PrintsBack.{CanBeSpelled};
 ghost use Rattle.mit_script.specs.Reading.{read_script};
 ghost use Rattle.mit_script.specs.Trees.{IsFormed, IsNumbered};
 ghost use Rattle.mit_script.specs.declared.tree.Script.{Script};
+
+use mit_lex::laws::validity_law;
 
 /// Tokens spell at most one script.
 pub fn spelling_law()
@@ -19,6 +23,14 @@ pub fn reading_law()
 
 /// What a text's tokens spell is formed, and its variables are numbered in the order in which they appear first.
 pub fn formed_law()
-    ensures formed { (tokens : Kinds) (script : Script) → Spells script tokens → length tokens ≤ 1048576 → IsFormed script }
+    ensures formed { (tokens : Kinds) (script : Script) → Spells script tokens → length tokens ≤ MAX_SCRIPT → IsFormed script }
     ensures numbered { (tokens : Kinds) (script : Script) → Spells script tokens → IsNumbered script }
 {}
+
+/// The tokens of a text that spells a script are ones that a text can have. So what is printed of that script is read
+/// again.
+pub fn printing_law()
+    ensures { (text : List ℕ) (script : Script) → IsSpelled text script → CanBeSpelled script }
+{
+    validity_law();
+}

@@ -4,14 +4,11 @@
 pub mod laws;
 mod lists;
 mod printed;
+mod printed_tokens;
 mod tree;
 mod typed;
-mod words;
 
 pub use lists::{Args, Name, Names, VarTypes};
 pub use printed::print;
 pub use tree::{Script, Stmt, statements};
 pub use typed::{CheckCode, Typed};
-
-#[cfg(test)]
-mod tests;

@@ -1,5 +1,6 @@
 //! Lists inside scripts: each is made from a `Vec` without taking memory.
 ghost use Rattle.std.specs.Prelude.{◌≡◌, ◌≤◌, length};
+ghost use Rattle.mit_lex.specs.declared.limits.TheConstants.{MAX_WORD};
 
 use mit_ops::VarType;
 use mit_rows::Text;
@@ -13,19 +14,20 @@ pub struct Name {
 
 impl Model for Name {
     ghost use Rattle.std.specs.Prelude.{List, ℕ, ◌≤◌, length};
+    ghost use Rattle.mit_lex.specs.declared.limits.TheConstants.{MAX_WORD};
 
     ghost Value = { List ℕ };
 
     ghost view = { λ n. n.text };
 
-    ghost invariant = { λ n. (1 ≤ length n.text) × (length n.text ≤ 64) };
+    ghost invariant = { λ n. (1 ≤ length n.text) × (length n.text ≤ MAX_WORD) };
 }
 
 impl Name {
     /// A name of this text.
     pub fn from_text(text: Text) -> Name
         requires some { 1 ≤ length text }
-        requires short { length text ≤ 64 }
+        requires short { length text ≤ MAX_WORD }
         ensures { result ≡ text }
     {
         Name { text }
@@ -35,7 +37,7 @@ impl Name {
     pub fn bytes(&self) -> &[u8]
         ensures value { result.now ≡ self.now }
         ensures some { 1 ≤ length self.now }
-        ensures short { length self.now ≤ 64 }
+        ensures short { length self.now ≤ MAX_WORD }
     {
         self.text.bytes()
     }

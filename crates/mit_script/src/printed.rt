@@ -1,44 +1,50 @@
 //! The printed text of a script: its statements, one a line.
 ghost use Rattle.std.specs.Prelude.{◌≡◌, ◌∷◌, ◌++◌, [], codes, map, IfOk, OnOk};
+ghost use Rattle.mit_lex.specs.Written.{written};
+ghost use Rattle.mit_lex.specs.declared.symbol.TheConstants as sign;
+ghost use Rattle.mit_lex.specs.declared.keyword.TheConstants as word;
+ghost use Rattle.mit_lex.specs.declared.token.TokenKind.TheVariants as token;
 ghost use Rattle.mit_script.specs.Grammar.{IsSpelled};
 ghost use Rattle.mit_script.specs.Printed as spec;
-ghost use Rattle.mit_script.specs.Printed.{printed};
+ghost use Rattle.mit_script.specs.Printed.{line_of, line_text, lines_text, printed};
+ghost use Rattle.mit_script.specs.PrintedTokens.{op_tokens};
 ghost use Rattle.mit_script.specs.PrintsBack.{CanBeSpelled, KeepsLimits, PrintsBack};
-ghost use Rattle.mit_script.specs.Words.{op_tokens};
 
 use crate::lists::{Args, Name};
+use crate::printed_tokens::{add_keyword, add_name, add_op, add_symbol, variable_name};
 use crate::tree::{Script, Stmt};
-use crate::words::{add_op, add_word, name_at};
 use mit_lex::laws::writing_law;
+use mit_lex::{keyword, symbol, symbol_bytes};
 use mit_ops::OpSpec;
 use std::alloc::{AllocError, Global};
 
-/// The end of a line: its last token.
-fn end_line(text: &mut Vec<u8>, last: u8) -> Result<(), AllocError>
-    ensures { OnOk result (text.new.items ≡ text.old.items ++ (last ∷ []) ++ codes "\n") }
+/// The end of a line: its last token, a symbol.
+fn add_last(text: &mut Vec<u8>, last: u8) -> Result<(), AllocError>
+    ensures { OnOk result (text.new.items ≡ text.old.items ++ written (token.Symbol last) ++ codes "\n") }
 {
-    text.push(last)?;
+    text.extend_from_slice(symbol_bytes(last))?;
     text.push(b'\n')?;
     Ok(())
 }
 
-/// A line of one token.
+/// The line that ends a block.
 fn add_end(text: &mut Vec<u8>, indent: &[u8]) -> Result<(), AllocError>
-    ensures { OnOk result (text.new.items ≡ text.old.items ++ spec.line indent.now [] (codes "}")) }
+    ensures { OnOk result (text.new.items ≡ text.old.items
+        ++ line_text (line_of indent.now [] (token.Symbol sign.RIGHT_BRACE))) }
 {
     text.extend_from_slice(indent)?;
-    end_line(text, b'}')
+    add_last(text, symbol::RIGHT_BRACE)
 }
 
 /// The line between the blocks of an `if`.
 fn add_else(text: &mut Vec<u8>, indent: &[u8]) -> Result<(), AllocError>
-    ensures { OnOk result (text.new.items ≡ text.old.items
-        ++ spec.line indent.now (codes "}" ∷ codes "else" ∷ []) (codes "{")) }
+    ensures { OnOk result (text.new.items ≡ text.old.items ++ line_text (line_of indent.now
+        (token.Symbol sign.RIGHT_BRACE ∷ token.Keyword word.ELSE ∷ []) (token.Symbol sign.LEFT_BRACE))) }
 {
     text.extend_from_slice(indent)?;
-    add_word(text, b"}")?;
-    add_word(text, b"else")?;
-    end_line(text, b'{')
+    add_symbol(text, symbol::RIGHT_BRACE)?;
+    add_keyword(text, keyword::ELSE)?;
+    add_last(text, symbol::LEFT_BRACE)
 }
 
 /// The line of an assignment.
@@ -50,14 +56,15 @@ fn add_assignment(
     op: &OpSpec,
     args: &Args,
 ) -> Result<(), AllocError>
-    ensures { OnOk result (text.new.items ≡ text.old.items ++ spec.line indent.now
-        (target.now ∷ codes "=" ∷ op_tokens names.now args.now op.now) (codes ";")) }
+    ensures { OnOk result (text.new.items ≡ text.old.items ++ line_text (line_of indent.now
+        (token.Name target.now ∷ token.Symbol sign.EQUALS ∷ op_tokens names.now args.now op.now)
+        (token.Symbol sign.SEMICOLON))) }
 {
     text.extend_from_slice(indent)?;
-    add_word(text, target)?;
-    add_word(text, b"=")?;
+    add_name(text, target)?;
+    add_symbol(text, symbol::EQUALS)?;
     add_op(text, names, args.as_slice(), op)?;
-    end_line(text, b';')
+    add_last(text, symbol::SEMICOLON)
 }
 
 /// The line of a write.
@@ -68,12 +75,12 @@ fn add_write(
     op: &OpSpec,
     args: &Args,
 ) -> Result<(), AllocError>
-    ensures { OnOk result (text.new.items ≡ text.old.items
-        ++ spec.line indent.now (op_tokens names.now args.now op.now) (codes ";")) }
+    ensures { OnOk result (text.new.items ≡ text.old.items ++ line_text (line_of indent.now
+        (op_tokens names.now args.now op.now) (token.Symbol sign.SEMICOLON))) }
 {
     text.extend_from_slice(indent)?;
     add_op(text, names, args.as_slice(), op)?;
-    end_line(text, b';')
+    add_last(text, symbol::SEMICOLON)
 }
 
 /// The line before a block: a keyword and a condition.
@@ -81,17 +88,17 @@ fn add_condition(
     text: &mut Vec<u8>,
     names: &[Name],
     indent: &[u8],
-    keyword: &[u8],
+    first: u8,
     op: &OpSpec,
     args: &Args,
 ) -> Result<(), AllocError>
-    ensures { OnOk result (text.new.items ≡ text.old.items ++ spec.line indent.now
-        (keyword.now ∷ op_tokens names.now args.now op.now) (codes "{")) }
+    ensures { OnOk result (text.new.items ≡ text.old.items ++ line_text (line_of indent.now
+        (token.Keyword first ∷ op_tokens names.now args.now op.now) (token.Symbol sign.LEFT_BRACE))) }
 {
     text.extend_from_slice(indent)?;
-    add_word(text, keyword)?;
+    add_keyword(text, first)?;
     add_op(text, names, args.as_slice(), op)?;
-    end_line(text, b'{')
+    add_last(text, symbol::LEFT_BRACE)
 }
 
 /// The indentation of the statements in a block, two blanks deeper.
@@ -113,7 +120,7 @@ fn add_all(
     stmts: &[Stmt],
 ) -> Result<(), AllocError>
     ensures { OnOk result (text.new.items ≡ text.old.items
-        ++ spec.texts_at indent.now (map (spec.stmt_text names.now) stmts.now)) }
+        ++ lines_text (spec.block_lines names.now stmts.now indent.now)) }
 {
     for stmt in stmts {
         add_stmt(alloc, text, names, indent, stmt)?;
@@ -131,7 +138,7 @@ fn add_block(
     block: &[Stmt],
 ) -> Result<(), AllocError>
     ensures { OnOk result (text.new.items ≡ text.old.items
-        ++ spec.texts_at (spec.deeper indent.now) (map (spec.stmt_text names.now) block.now)) }
+        ++ lines_text (spec.block_lines names.now block.now (spec.deeper indent.now))) }
 {
     let inner = deeper(alloc, indent)?;
     add_all(alloc, text, names, &inner, block)
@@ -147,7 +154,7 @@ fn add_other(
     other: &[Stmt],
 ) -> Result<(), AllocError>
     ensures { OnOk result (text.new.items ≡ text.old.items
-        ++ spec.else_text indent.now (map (spec.stmt_text names.now) other.now)) }
+        ++ lines_text (spec.else_lines indent.now (map (spec.stmt_lines names.now) other.now))) }
 {
     if other.is_empty() {
         return Ok(());
@@ -166,21 +173,21 @@ fn add_stmt(
     stmt: &Stmt,
 ) -> Result<(), AllocError>
     ensures { OnOk result (text.new.items ≡ text.old.items
-        ++ spec.stmt_text names.now stmt.now indent.now) }
+        ++ lines_text (spec.stmt_lines names.now stmt.now indent.now)) }
 {
     match stmt {
         Stmt::Assign { target, op, args } => {
-            add_assignment(text, names, indent, name_at(names, *target), op, args)
+            add_assignment(text, names, indent, variable_name(names, *target), op, args)
         }
         Stmt::Write { op, args } => add_write(text, names, indent, op, args),
         Stmt::If { op, args, yes, no } => {
-            add_condition(text, names, indent, b"if", op, args)?;
+            add_condition(text, names, indent, keyword::IF, op, args)?;
             add_block(alloc, text, names, indent, yes.as_slice())?;
             add_other(alloc, text, names, indent, no.as_slice())?;
             add_end(text, indent)
         }
         Stmt::While { op, args, body } => {
-            add_condition(text, names, indent, b"while", op, args)?;
+            add_condition(text, names, indent, keyword::WHILE, op, args)?;
             add_block(alloc, text, names, indent, body.as_slice())?;
             add_end(text, indent)
         }

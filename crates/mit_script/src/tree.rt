@@ -1,4 +1,5 @@
 ghost use Rattle.std.specs.Prelude.{◌≡◌, ◌≤◌};
+ghost use Rattle.mit_lex.specs.declared.limits.TheConstants.{MAX_SCRIPT};
 ghost use Rattle.mit_script.specs.Trees.{IsFormed, count_of, count_of_all, statements_of};
 
 use crate::lists::{Args, Names};
@@ -55,7 +56,7 @@ pub fn statements(script: &Script) -> u32
 /// The statements of a block, and those inside them.
 #[cycle(count)]
 fn count_all(block: &[Stmt]) -> u32
-    requires { count_of_all block.now ≤ 1048576 }
+    requires { count_of_all block.now ≤ MAX_SCRIPT }
     ensures { result ≡ count_of_all block.now }
 {
     let mut count = 0;
@@ -68,7 +69,7 @@ fn count_all(block: &[Stmt]) -> u32
 /// A statement, and those inside it.
 #[cycle(count)]
 fn count_one(stmt: &Stmt) -> u32
-    requires { count_of stmt.now ≤ 1048576 }
+    requires { count_of stmt.now ≤ MAX_SCRIPT }
     ensures { result ≡ count_of stmt.now }
 {
     match stmt {

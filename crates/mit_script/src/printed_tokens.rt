@@ -1,28 +1,75 @@
-//! The tokens of a statement's operator: each is added to a text with a blank behind it.
-ghost use Rattle.std.specs.Prelude.{◌≡◌, ◌<◌, ◌∷◌, ◌++◌, [], decimal, drop, flat_map, slice_get, unwrap_or, OnOk};
+//! The tokens of a statement's operator: each is added to a text with a blank after it.
+ghost use Rattle.std.specs.Prelude.{◌≡◌, ◌<◌, ◌∷◌, ◌++◌, [], codes, drop, slice_get, unwrap_or, OnOk};
 ghost use Rattle.std.specs.List.{join_by};
-ghost use Rattle.mit_lex.specs.Written.{between_quotes, escaped_as};
-ghost use Rattle.mit_script.specs.Words as spec;
-ghost use Rattle.mit_script.specs.Words.{spaced};
+ghost use Rattle.mit_lex.specs.declared.token.TokenKind.TheVariants as token;
+ghost use Rattle.mit_script.specs.Grammar as grammar;
+ghost use Rattle.mit_script.specs.Printed.{spaced};
+ghost use Rattle.mit_script.specs.PrintedTokens as spec;
 
 use crate::lists::Name;
 use itoa::Buffer;
 use mit_expr::{BinOp, Call, Expr};
+use mit_lex::{add_quoted, keyword, keyword_bytes, symbol, symbol_bytes};
 use mit_ops::{Agg, Flat, OpSpec};
 use mit_rows::{ColType, Value};
 use std::alloc::AllocError;
 
-/// One token.
-pub(crate) fn add_word(text: &mut Vec<u8>, word: &[u8]) -> Result<(), AllocError>
-    ensures { OnOk result (text.new.items ≡ text.old.items ++ spaced (word.now ∷ [])) }
+/// A token of these bytes.
+fn add_bytes(text: &mut Vec<u8>, bytes: &[u8]) -> Result<(), AllocError>
+    ensures { OnOk result (text.new.items ≡ text.old.items ++ bytes.now ++ codes " ") }
 {
-    text.extend_from_slice(word)?;
+    text.extend_from_slice(bytes)?;
+    text.push(b' ')?;
+    Ok(())
+}
+
+/// A symbol.
+pub(crate) fn add_symbol(text: &mut Vec<u8>, place: u8) -> Result<(), AllocError>
+    ensures { OnOk result (text.new.items ≡ text.old.items ++ spaced (token.Symbol place ∷ [])) }
+{
+    add_bytes(text, symbol_bytes(place))
+}
+
+/// A keyword.
+pub(crate) fn add_keyword(text: &mut Vec<u8>, place: u8) -> Result<(), AllocError>
+    ensures { OnOk result (text.new.items ≡ text.old.items ++ spaced (token.Keyword place ∷ [])) }
+{
+    add_bytes(text, keyword_bytes(place))
+}
+
+/// A name.
+pub(crate) fn add_name(text: &mut Vec<u8>, name: &[u8]) -> Result<(), AllocError>
+    ensures { OnOk result (text.new.items ≡ text.old.items ++ spaced (token.Name name.now ∷ [])) }
+{
+    add_bytes(text, name)
+}
+
+/// A number.
+fn add_number(text: &mut Vec<u8>, number: u64) -> Result<(), AllocError>
+    ensures { OnOk result (text.new.items ≡ text.old.items ++ spaced (token.Number number ∷ [])) }
+{
+    add_bytes(text, Buffer::new().format(number).as_bytes())
+}
+
+/// A column.
+fn add_column(text: &mut Vec<u8>, column: u8) -> Result<(), AllocError>
+    ensures { OnOk result (text.new.items ≡ text.old.items ++ spaced (token.Column column ∷ [])) }
+{
+    text.push(b'$')?;
+    add_bytes(text, Buffer::new().format(column).as_bytes())
+}
+
+/// A text.
+fn add_text(text: &mut Vec<u8>, bytes: &[u8]) -> Result<(), AllocError>
+    ensures { OnOk result (text.new.items ≡ text.old.items ++ spaced (token.Text bytes.now ∷ [])) }
+{
+    add_quoted(text, bytes)?;
     text.push(b' ')?;
     Ok(())
 }
 
 /// The name of a variable.
-pub(crate) fn name_at(names: &[Name], variable: u32) -> &[u8]
+pub(crate) fn variable_name(names: &[Name], variable: u32) -> &[u8]
     ensures { result.now ≡ unwrap_or (slice_get names.now variable) [] }
 {
     match names.get(variable as usize) {
@@ -32,28 +79,13 @@ pub(crate) fn name_at(names: &[Name], variable: u32) -> &[u8]
 }
 
 /// The name of the variable at a place among these.
-fn named<'a>(names: &'a [Name], variables: &[u32], place: usize) -> &'a [u8]
-    ensures { result.now ≡ spec.named names.now variables.now place }
+fn argument_name<'a>(names: &'a [Name], variables: &[u32], place: usize) -> &'a [u8]
+    ensures { result.now ≡ spec.argument_name names.now variables.now place }
 {
     match variables.get(place) {
-        Some(variable) => name_at(names, *variable),
+        Some(variable) => variable_name(names, *variable),
         None => b"",
     }
-}
-
-/// A number without a sign.
-fn add_number(text: &mut Vec<u8>, number: u64) -> Result<(), AllocError>
-    ensures { OnOk result (text.new.items ≡ text.old.items ++ spaced (decimal number ∷ [])) }
-{
-    add_word(text, Buffer::new().format(number).as_bytes())
-}
-
-/// A column.
-fn add_column(text: &mut Vec<u8>, column: u8) -> Result<(), AllocError>
-    ensures { OnOk result (text.new.items ≡ text.old.items ++ spaced (spec.column_token column ∷ [])) }
-{
-    text.push(b'$')?;
-    add_number(text, u64::from(column))
 }
 
 /// An integer.
@@ -61,42 +93,9 @@ fn add_int(text: &mut Vec<u8>, number: i64) -> Result<(), AllocError>
     ensures { OnOk result (text.new.items ≡ text.old.items ++ spaced (spec.int_tokens number)) }
 {
     if number < 0 {
-        add_word(text, b"-")?;
+        add_symbol(text, symbol::MINUS)?;
     }
     add_number(text, number.unsigned_abs())
-}
-
-/// A byte between quotes.
-fn add_escaped(text: &mut Vec<u8>, byte: u8) -> Result<(), AllocError>
-    ensures { OnOk result (text.new.items ≡ text.old.items ++ escaped_as byte) }
-{
-    match byte {
-        b'"' => text.extend_from_slice(b"\\\"")?,
-        b'\\' => text.extend_from_slice(b"\\\\")?,
-        b'\n' => text.extend_from_slice(b"\\n")?,
-        b'\t' => text.extend_from_slice(b"\\t")?,
-        _ => text.push(byte)?,
-    }
-    Ok(())
-}
-
-/// Bytes between quotes.
-fn add_all_escaped(text: &mut Vec<u8>, words: &[u8]) -> Result<(), AllocError>
-    ensures { OnOk result (text.new.items ≡ text.old.items ++ flat_map escaped_as words.now) }
-{
-    for byte in words {
-        add_escaped(text, *byte)?;
-    }
-    Ok(())
-}
-
-/// A text in quotes.
-fn add_quoted(text: &mut Vec<u8>, words: &[u8]) -> Result<(), AllocError>
-    ensures { OnOk result (text.new.items ≡ text.old.items ++ spaced (between_quotes words.now ∷ [])) }
-{
-    text.push(b'"')?;
-    add_all_escaped(text, words)?;
-    add_word(text, b"\"")
 }
 
 /// A literal.
@@ -105,37 +104,37 @@ fn add_literal(text: &mut Vec<u8>, value: &Value) -> Result<(), AllocError>
 {
     match value {
         Value::Int(number) => add_int(text, *number),
-        Value::Text(words) => add_quoted(text, words.bytes()),
-        Value::Bool(true) => add_word(text, b"true"),
-        Value::Bool(false) => add_word(text, b"false"),
+        Value::Text(words) => add_text(text, words.bytes()),
+        Value::Bool(true) => add_keyword(text, keyword::TRUE),
+        Value::Bool(false) => add_keyword(text, keyword::FALSE),
     }
 }
 
-/// The symbol of an operator.
-fn symbol_of(op: BinOp) -> &'static [u8]
-    ensures { result.now ≡ spec.symbol_of op }
+/// A binary operator.
+fn add_operator(text: &mut Vec<u8>, op: BinOp) -> Result<(), AllocError>
+    ensures { OnOk result (text.new.items ≡ text.old.items ++ spaced (grammar.operator_token op ∷ [])) }
 {
     match op {
-        BinOp::Add => b"+",
-        BinOp::Sub => b"-",
-        BinOp::Mul => b"*",
-        BinOp::Div => b"/",
-        BinOp::Rem => b"%",
-        BinOp::Concat => b"++",
-        BinOp::Eq => b"==",
-        BinOp::Ne => b"!=",
-        BinOp::Lt => b"<",
-        BinOp::Le => b"<=",
-        BinOp::Gt => b">",
-        BinOp::Ge => b">=",
-        BinOp::And => b"and",
-        BinOp::Or => b"or",
+        BinOp::Add => add_symbol(text, symbol::PLUS),
+        BinOp::Sub => add_symbol(text, symbol::MINUS),
+        BinOp::Mul => add_symbol(text, symbol::TIMES),
+        BinOp::Div => add_symbol(text, symbol::DIVIDE),
+        BinOp::Rem => add_symbol(text, symbol::REMAINDER),
+        BinOp::Concat => add_symbol(text, symbol::JOINED),
+        BinOp::Eq => add_symbol(text, symbol::SAME),
+        BinOp::Ne => add_symbol(text, symbol::DIFFERENT),
+        BinOp::Lt => add_symbol(text, symbol::BELOW),
+        BinOp::Le => add_symbol(text, symbol::AT_MOST),
+        BinOp::Gt => add_symbol(text, symbol::ABOVE),
+        BinOp::Ge => add_symbol(text, symbol::AT_LEAST),
+        BinOp::And => add_keyword(text, keyword::AND),
+        BinOp::Or => add_keyword(text, keyword::OR),
     }
 }
 
 /// How strongly an operator binds.
 fn rank_of(op: BinOp) -> u8
-    ensures value { result ≡ spec.rank_of op }
+    ensures value { result ≡ grammar.rank_of op }
     ensures below { result < 7 }
 {
     match op {
@@ -150,7 +149,7 @@ fn rank_of(op: BinOp) -> u8
 
 /// The least rank that its left operand has without parentheses.
 fn left_rank(op: BinOp) -> u8
-    ensures { result ≡ spec.left_rank op }
+    ensures { result ≡ grammar.left_rank op }
 {
     let rank = rank_of(op);
     if rank == 3 { 4 } else { rank }
@@ -158,19 +157,19 @@ fn left_rank(op: BinOp) -> u8
 
 /// The least rank that its right operand has without parentheses.
 fn right_rank(op: BinOp) -> u8
-    ensures { result ≡ spec.right_rank op }
+    ensures { result ≡ grammar.right_rank op }
 {
     rank_of(op) + 1
 }
 
 /// The name of a function.
-fn call_word(call: Call) -> &'static [u8]
-    ensures { result.now ≡ spec.call_word call }
+fn add_function(text: &mut Vec<u8>, call: Call) -> Result<(), AllocError>
+    ensures { OnOk result (text.new.items ≡ text.old.items ++ spaced (grammar.call_token call ∷ [])) }
 {
     match call {
-        Call::ToText => b"text",
-        Call::ToInt => b"int",
-        Call::Len => b"len",
+        Call::ToText => add_keyword(text, keyword::TEXT),
+        Call::ToInt => add_keyword(text, keyword::INT),
+        Call::Len => add_keyword(text, keyword::LEN),
     }
 }
 
@@ -178,14 +177,22 @@ fn call_word(call: Call) -> &'static [u8]
 fn add_opening(text: &mut Vec<u8>, needed: bool) -> Result<(), AllocError>
     ensures { OnOk result (text.new.items ≡ text.old.items ++ spaced (spec.opening needed)) }
 {
-    if needed { add_word(text, b"(") } else { Ok(()) }
+    if needed {
+        add_symbol(text, symbol::LEFT_PAREN)
+    } else {
+        Ok(())
+    }
 }
 
 /// `)`, where it is needed.
 fn add_closing(text: &mut Vec<u8>, needed: bool) -> Result<(), AllocError>
     ensures { OnOk result (text.new.items ≡ text.old.items ++ spaced (spec.closing needed)) }
 {
-    if needed { add_word(text, b")") } else { Ok(()) }
+    if needed {
+        add_symbol(text, symbol::RIGHT_PAREN)
+    } else {
+        Ok(())
+    }
 }
 
 /// An expression where one of at least this rank is wanted.
@@ -201,26 +208,28 @@ fn add_expr(
 {
     match expr {
         Expr::Column(column) => add_column(text, *column),
-        Expr::Capture(capture) => { add_word(text, named(names, captured, usize::from(*capture))) }
+        Expr::Capture(capture) => {
+            add_name(text, argument_name(names, captured, usize::from(*capture)))
+        }
         Expr::Lit(value) => add_literal(text, value),
         Expr::Bin { op, left, right } => {
             add_opening(text, rank_of(*op) < rank)?;
             add_expr(text, names, captured, left.get(), left_rank(*op))?;
-            add_word(text, symbol_of(*op))?;
+            add_operator(text, *op)?;
             add_expr(text, names, captured, right.get(), right_rank(*op))?;
             add_closing(text, rank_of(*op) < rank)
         }
         Expr::Not(arg) => {
             add_opening(text, 2 < rank)?;
-            add_word(text, b"not")?;
+            add_keyword(text, keyword::NOT)?;
             add_expr(text, names, captured, arg.get(), 2)?;
             add_closing(text, 2 < rank)
         }
         Expr::Call { call, arg } => {
-            add_word(text, call_word(*call))?;
-            add_word(text, b"(")?;
+            add_function(text, *call)?;
+            add_symbol(text, symbol::LEFT_PAREN)?;
             add_expr(text, names, captured, arg.get(), 0)?;
-            add_word(text, b")")
+            add_symbol(text, symbol::RIGHT_PAREN)
         }
     }
 }
@@ -240,7 +249,7 @@ fn add_listed_exprs(
     };
     add_expr(text, names, captured, first, 0)?;
     for expr in more {
-        add_word(text, b",")?;
+        add_symbol(text, symbol::COMMA)?;
         add_expr(text, names, captured, expr, 0)?;
     }
     Ok(())
@@ -256,19 +265,19 @@ fn add_exprs(
     ensures { OnOk result (text.new.items ≡ text.old.items
         ++ spaced (spec.exprs_tokens names.now captured.now exprs.now)) }
 {
-    add_word(text, b"[")?;
+    add_symbol(text, symbol::LEFT_BRACKET)?;
     add_listed_exprs(text, names, captured, exprs)?;
-    add_word(text, b"]")
+    add_symbol(text, symbol::RIGHT_BRACKET)
 }
 
 /// The name of a type.
-fn type_word(is: ColType) -> &'static [u8]
-    ensures { result.now ≡ spec.type_word is }
+fn add_type(text: &mut Vec<u8>, is: ColType) -> Result<(), AllocError>
+    ensures { OnOk result (text.new.items ≡ text.old.items ++ spaced (spec.type_tokens is)) }
 {
     match is {
-        ColType::Int => b"int",
-        ColType::Text => b"text",
-        ColType::Bool => b"bool",
+        ColType::Int => add_keyword(text, keyword::INT),
+        ColType::Text => add_keyword(text, keyword::TEXT),
+        ColType::Bool => add_keyword(text, keyword::BOOL),
     }
 }
 
@@ -280,10 +289,10 @@ fn add_listed_types(text: &mut Vec<u8>, types: &[ColType]) -> Result<(), AllocEr
     let [first, more @ ..] = types else {
         return Ok(());
     };
-    add_word(text, type_word(*first))?;
+    add_type(text, *first)?;
     for is in more {
-        add_word(text, b",")?;
-        add_word(text, type_word(*is))?;
+        add_symbol(text, symbol::COMMA)?;
+        add_type(text, *is)?;
     }
     Ok(())
 }
@@ -292,9 +301,9 @@ fn add_listed_types(text: &mut Vec<u8>, types: &[ColType]) -> Result<(), AllocEr
 fn add_types(text: &mut Vec<u8>, types: &[ColType]) -> Result<(), AllocError>
     ensures { OnOk result (text.new.items ≡ text.old.items ++ spaced (spec.types_tokens types.now)) }
 {
-    add_word(text, b"(")?;
+    add_symbol(text, symbol::LEFT_PAREN)?;
     add_listed_types(text, types)?;
-    add_word(text, b")")
+    add_symbol(text, symbol::RIGHT_PAREN)
 }
 
 /// Columns with commas between them.
@@ -306,7 +315,7 @@ fn add_columns(text: &mut Vec<u8>, columns: &[u8]) -> Result<(), AllocError>
     };
     add_column(text, *first)?;
     for column in more {
-        add_word(text, b",")?;
+        add_symbol(text, symbol::COMMA)?;
         add_column(text, *column)?;
     }
     Ok(())
@@ -314,20 +323,20 @@ fn add_columns(text: &mut Vec<u8>, columns: &[u8]) -> Result<(), AllocError>
 
 /// What a reduction makes of the rows of a key.
 fn add_agg(text: &mut Vec<u8>, agg: Agg) -> Result<(), AllocError>
-    ensures { OnOk result (text.new.items ≡ text.old.items ++ spaced (spec.agg_tokens agg)) }
+    ensures { OnOk result (text.new.items ≡ text.old.items ++ spaced (grammar.agg_tokens agg)) }
 {
     match agg {
-        Agg::Count => add_word(text, b"count"),
+        Agg::Count => add_keyword(text, keyword::COUNT),
         Agg::Sum(column) => {
-            add_word(text, b"sum")?;
+            add_keyword(text, keyword::SUM)?;
             add_column(text, column)
         }
         Agg::Min(column) => {
-            add_word(text, b"min")?;
+            add_keyword(text, keyword::MIN)?;
             add_column(text, column)
         }
         Agg::Max(column) => {
-            add_word(text, b"max")?;
+            add_keyword(text, keyword::MAX)?;
             add_column(text, column)
         }
     }
@@ -345,26 +354,27 @@ fn add_flat(
 {
     match flat {
         Flat::Words { expr, separator } => {
-            add_word(text, b"words")?;
+            add_keyword(text, keyword::WORDS)?;
             add_expr(text, names, captured, expr, 0)?;
-            add_word(text, b",")?;
-            add_quoted(text, separator.bytes())
+            add_symbol(text, symbol::COMMA)?;
+            add_text(text, separator.bytes())
         }
         Flat::Range { from, to } => {
-            add_word(text, b"range")?;
+            add_keyword(text, keyword::RANGE)?;
             add_expr(text, names, captured, from, 0)?;
-            add_word(text, b",")?;
+            add_symbol(text, symbol::COMMA)?;
             add_expr(text, names, captured, to, 0)
         }
     }
 }
 
 /// A keyword and the name of a bag.
-fn add_pair(text: &mut Vec<u8>, keyword: &[u8], bag: &[u8]) -> Result<(), AllocError>
-    ensures { OnOk result (text.new.items ≡ text.old.items ++ spaced (keyword.now ∷ bag.now ∷ [])) }
+fn add_pair(text: &mut Vec<u8>, keyword: u8, bag: &[u8]) -> Result<(), AllocError>
+    ensures { OnOk result (text.new.items ≡ text.old.items
+        ++ spaced (token.Keyword keyword ∷ token.Name bag.now ∷ [])) }
 {
-    add_word(text, keyword)?;
-    add_word(text, bag)
+    add_keyword(text, keyword)?;
+    add_name(text, bag)
 }
 
 /// A join of two bags by the columns of each.
@@ -378,9 +388,9 @@ fn add_join(
     ensures { OnOk result (text.new.items ≡ text.old.items
         ++ spaced (spec.join_tokens bag.now left.now other.now right.now)) }
 {
-    add_pair(text, b"join", bag)?;
+    add_pair(text, keyword::JOIN, bag)?;
     add_columns(text, left)?;
-    add_pair(text, b"with", other)?;
+    add_pair(text, keyword::WITH, other)?;
     add_columns(text, right)
 }
 
@@ -389,8 +399,8 @@ fn add_reduce(text: &mut Vec<u8>, bag: &[u8], keys: &[u8], agg: Agg) -> Result<(
     ensures { OnOk result (text.new.items ≡ text.old.items
         ++ spaced (spec.reduce_tokens bag.now keys.now agg)) }
 {
-    add_pair(text, b"reduce", bag)?;
-    add_word(text, b"by")?;
+    add_pair(text, keyword::REDUCE, bag)?;
+    add_keyword(text, keyword::BY)?;
     add_columns(text, keys)?;
     add_agg(text, agg)
 }
@@ -410,21 +420,21 @@ fn add_over_bags(
     match op {
         OpSpec::Scalar { expr } => add_expr(text, names, captured, expr, 0),
         OpSpec::Read { name, types } => {
-            add_word(text, b"read")?;
+            add_keyword(text, keyword::READ)?;
             add_expr(text, names, captured, name, 0)?;
             add_types(text, types.as_slice())
         }
         OpSpec::Map { exprs } => {
-            add_pair(text, b"map", bag)?;
+            add_pair(text, keyword::MAP, bag)?;
             add_exprs(text, names, captured, exprs.as_slice())
         }
         OpSpec::Filter { expr } => {
-            add_pair(text, b"filter", bag)?;
-            add_word(text, b"where")?;
+            add_pair(text, keyword::FILTER, bag)?;
+            add_keyword(text, keyword::WHERE)?;
             add_expr(text, names, captured, expr, 0)
         }
         OpSpec::FlatMap { flat } => {
-            add_pair(text, b"flat", bag)?;
+            add_pair(text, keyword::FLAT, bag)?;
             add_flat(text, names, captured, flat)
         }
         OpSpec::Join { left, right } => {
@@ -432,35 +442,36 @@ fn add_over_bags(
         }
         OpSpec::Reduce { keys, agg } => add_reduce(text, bag, keys.as_slice(), *agg),
         OpSpec::Union => {
-            add_pair(text, b"union", bag)?;
-            add_pair(text, b",", other)
+            add_pair(text, keyword::UNION, bag)?;
+            add_symbol(text, symbol::COMMA)?;
+            add_name(text, other)
         }
-        OpSpec::Distinct => add_pair(text, b"distinct", bag),
-        OpSpec::Only => add_pair(text, b"only", bag),
-        OpSpec::Count => add_pair(text, b"count", bag),
+        OpSpec::Distinct => add_pair(text, keyword::DISTINCT, bag),
+        OpSpec::Only => add_pair(text, keyword::ONLY, bag),
+        OpSpec::Count => add_pair(text, keyword::COUNT, bag),
         OpSpec::Sum { column } => {
-            add_pair(text, b"sum", bag)?;
+            add_pair(text, keyword::SUM, bag)?;
             add_column(text, *column)
         }
         OpSpec::MakeRow { exprs } => {
-            add_word(text, b"row")?;
+            add_keyword(text, keyword::ROW)?;
             add_exprs(text, names, captured, exprs.as_slice())
         }
         OpSpec::Empty { types } => {
-            add_word(text, b"empty")?;
+            add_keyword(text, keyword::EMPTY)?;
             add_types(text, types.as_slice())
         }
         OpSpec::Write { name } => {
-            add_pair(text, b"write", bag)?;
-            add_word(text, b"to")?;
+            add_pair(text, keyword::WRITE, bag)?;
+            add_keyword(text, keyword::TO)?;
             add_expr(text, names, captured, name, 0)
         }
-        OpSpec::Copy => add_word(text, bag),
+        OpSpec::Copy => add_name(text, bag),
     }
 }
 
-/// What stands behind the first of these.
-fn behind(args: &[u32], count: u16) -> &[u32]
+/// What stands after the first of these.
+fn after(args: &[u32], count: u16) -> &[u32]
     ensures { result.now ≡ drop count args.now }
 {
     args.get(usize::from(count)..).unwrap_or(&[])
@@ -476,8 +487,8 @@ pub(crate) fn add_op(
     ensures { OnOk result (text.new.items ≡ text.old.items
         ++ spaced (spec.op_tokens names.now args.now op.now)) }
 {
-    let captured = behind(args, op.bag_inputs());
-    let bag = named(names, args, 0);
-    let other = named(names, args, 1);
+    let captured = after(args, op.bag_inputs());
+    let bag = argument_name(names, args, 0);
+    let other = argument_name(names, args, 1);
     add_over_bags(text, names, captured, bag, other, op)
 }

@@ -1,6 +1,7 @@
 use Rattle.std.proofs.Common.{◌≡◌, ◌++◌, flat_map, take}
-use Rattle.mit_script.specs.Words.{comma, column_tokens, spaced}
-use Rattle.mit_script.proofs.words.add_columns.Given as goal
+use Rattle.mit_script.specs.Printed.{spaced}
+use Rattle.mit_script.specs.PrintedTokens.{column_tokens, comma}
+use Rattle.mit_script.proofs.printed_tokens.add_columns.Given as goal
 
 abbrev pub invariant-loop-column : goal.invariant-loop-column
 invariant-loop-column l =

@@ -1,6 +1,7 @@
 use Rattle.std.proofs.Common.{◌≡◌, ◌++◌, flat_map, take}
-use Rattle.mit_script.specs.Words.{comma, type_tokens, spaced}
-use Rattle.mit_script.proofs.words.add_listed_types.Given as goal
+use Rattle.mit_script.specs.Printed.{spaced}
+use Rattle.mit_script.specs.PrintedTokens.{comma, type_tokens}
+use Rattle.mit_script.proofs.printed_tokens.add_listed_types.Given as goal
 
 abbrev pub invariant-loop-is : goal.invariant-loop-is
 invariant-loop-is l =

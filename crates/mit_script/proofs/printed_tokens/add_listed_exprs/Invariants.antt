@@ -1,6 +1,7 @@
 use Rattle.std.proofs.Common.{◌≡◌, ◌++◌, flat_map, take}
-use Rattle.mit_script.specs.Words.{comma, expr_tokens, spaced}
-use Rattle.mit_script.proofs.words.add_listed_exprs.Given as goal
+use Rattle.mit_script.specs.Printed.{spaced}
+use Rattle.mit_script.specs.PrintedTokens.{comma, expr_tokens}
+use Rattle.mit_script.proofs.printed_tokens.add_listed_exprs.Given as goal
 
 abbrev pub invariant-loop-expr : goal.invariant-loop-expr
 invariant-loop-expr l =
