@@ -1,0 +1,137 @@
+-- Staging the files one after another: what is left after some of them, and what all of them give where nothing was staged before.
+use Rattle.std.proofs.Common.{◌≡◌, ◌∙◌, ◌+◌, ◌≤◌, ℕ, List, [], ◌∷◌, ◌++◌, Option, Some, None, length, take, ap, sym, refl, add-one}
+use Rattle.std.specs.Prelude.{zero, suc, map, Bool, true, false, cond, ◌&&◌, T, Result, Ok, Err, OnErr, option_map, slice_get}
+use Rattle.std.proofs.lemmas.List.{take_all}
+use Rattle.std.specs.Ordering.{eq_by_cmp, is_eq, is_lt}
+use Rattle.std.specs.Cmp.Lexicographic.{nat_list_cmp_total}
+use Rattle.std.specs.declared.cmp.Ordering.{Ordering}
+use Rattle.std.specs.declared.cmp.Ordering.TheVariants.{Less, Equal, Greater}
+use Rattle.std.specs.FinMap as fin
+use Rattle.std.specs.FinMap.Entries.{below_all, find, is_sorted}
+use Rattle.mit_world.specs.Files.{FileMap, name_cmp}
+use Rattle.mit_world.specs.Outside.{Held, stages}
+use Rattle.mit_shelf.specs.Staging.{StagesAfresh, published_in, stages_all}
+
+-- ---- one file
+
+-- the file at a place is the first of those that are left
+front : (files : List (List ℕ × List ℕ)) (k : ℕ) (name bytes : List ℕ) → slice_get (map (λ e. e.0) files) k ≡ Some name
+    → slice_get (map (λ e. e.1) files) k ≡ Some bytes → take (suc k) files ≡ take k files ++ (name, bytes) ∷ []
+front [] k name bytes named held = cc
+front (file ∷ files) zero name bytes named held =
+    let first : file.0 ≡ name = cc in
+    let second : file.1 ≡ bytes = cc in
+    λ i. (first i, second i) ∷ []
+front (file ∷ files) (suc k) name bytes named held = ap (λ (rest : List (List ℕ × List ℕ)). file ∷ rest) (front files k name bytes named held)
+
+stages_all-more : (files : List (List ℕ × List ℕ)) (name bytes : List ℕ) (held : Held) → stages_all (files ++ (name, bytes) ∷ []) held ≡ stages name bytes (stages_all files held)
+unfolding stages_all
+stages_all-more [] name bytes held = refl
+stages_all-more (file ∷ files) name bytes held = stages_all-more files name bytes (stages file.0 file.1 held)
+
+staged_more : (files : List (List ℕ × List ℕ)) (name bytes : List ℕ) (old : Option Held)
+    → option_map (stages name bytes) (option_map (stages_all files) old) ≡ option_map (stages_all (files ++ (name, bytes) ∷ [])) old
+staged_more files name bytes None = refl
+staged_more files name bytes (Some held) = ap Some (sym (stages_all-more files name bytes held))
+
+pub staged_none : (held : Option Held) → held ≡ option_map (stages_all []) held
+unfolding stages_all
+staged_none None = refl
+staged_none (Some held) = refl
+
+-- one more file is staged
+pub goes_on : (files : List (List ℕ × List ℕ)) (k : ℕ) (name bytes : List ℕ) (first old new : Option Held)
+    → slice_get (map (λ e. e.0) files) k ≡ Some name → slice_get (map (λ e. e.1) files) k ≡ Some bytes → new ≡ option_map (stages name bytes) old
+    → old ≡ option_map (stages_all (take k files)) first → new ≡ option_map (stages_all (take (k + 1) files)) first
+goes_on files k name bytes first old new named held is before =
+    is ∙ ap (option_map (stages name bytes)) before ∙ staged_more (take k files) name bytes first
+    ∙ ap (λ (those : List (List ℕ × List ℕ)). option_map (stages_all those) first) (sym (front files k name bytes named held))
+    ∙ ap (λ n. option_map (stages_all (take n files)) first) (sym (add-one k))
+
+pub publishes_same : (name bytes : List ℕ) (old new : Option Held) → new ≡ option_map (stages name bytes) old → published_in new ≡ published_in old
+publishes_same name bytes None new is = ap published_in is
+publishes_same name bytes (Some held) new is = ap published_in is
+
+-- ---- all files
+
+pub ends : (files : List (List ℕ × List ℕ)) (k : ℕ) (first held : Option Held) → length files ≤ k → held ≡ option_map (stages_all (take k files)) first
+    → held ≡ option_map (stages_all files) first
+ends files k first held all is = is ∙ ap (λ (those : List (List ℕ × List ℕ)). option_map (stages_all those) first) (take_all k files all)
+
+-- ---- onto nothing
+
+-- the map after these files, one after another
+abbrev inserted : FileMap → List (List ℕ × List ℕ) → FileMap
+inserted files [] = files
+inserted files (file ∷ rest) = inserted (fin.insert files file.0 file.1) rest
+
+staged_inserted : (files : List (List ℕ × List ℕ)) (held : Held) → stages_all files held ≡ record held { staged = inserted held.staged files }
+unfolding stages_all
+staged_inserted [] held = refl
+staged_inserted (file ∷ files) held = staged_inserted files (stages file.0 file.1 held)
+
+both : (a b : Bool) → T (a && b) → T a × T b
+both true b p = (tt, p)
+both false b p = absurd p
+
+tied : (r : Ordering) → is_eq r ≡ true → r ≡ Equal
+tied Less e = cc
+tied Equal e = refl
+tied Greater e = cc
+
+apart : (r : Ordering) → T (is_lt r) → is_eq r ≡ false
+apart Less p = refl
+apart Equal p = absurd p
+apart Greater p = absurd p
+
+-- a name that ties with one below all others is not among them
+find_below : (q name : List ℕ) (files : List (List ℕ × List ℕ)) → name_cmp q name ≡ Equal → T (below_all name_cmp name files) → find name_cmp q files ≡ None
+find_below q name [] tie below = refl
+find_below q name (file ∷ files) tie below =
+    let p = both _ _ below in
+    let same : name_cmp q file.0 ≡ name_cmp name file.0 = nat_list_cmp_total.congr q name file.0 tie in
+    ap (λ r. cond (is_eq r) (Some file.1) (find name_cmp q files)) same
+    ∙ ap (λ b. cond b (Some file.1) (find name_cmp q files)) (apart _ p.0) ∙ find_below q name files tie p.1
+
+-- the one, or else the other
+abbrev or_else : Option (List ℕ) → Option (List ℕ) → Option (List ℕ)
+or_else None other = other
+or_else (Some bytes) other = Some bytes
+
+chosen : (tie : Bool) (found other : Option (List ℕ)) (bytes : List ℕ) → (tie ≡ true → found ≡ None)
+    → or_else found (cond tie (Some bytes) other) ≡ or_else (cond tie (Some bytes) found) other
+chosen true found other bytes none = ap (λ (o : Option (List ℕ)). or_else o (Some bytes)) (none refl)
+chosen false found other bytes none = refl
+
+get_inserted : (before : FileMap) (files : List (List ℕ × List ℕ)) (q : List ℕ) → T (is_sorted name_cmp files)
+    → fin.get (inserted before files) q ≡ or_else (find name_cmp q files) (fin.get before q)
+get_inserted before [] q rising = refl
+get_inserted before (file ∷ files) q rising =
+    let p = both _ _ rising in
+    get_inserted (fin.insert before file.0 file.1) files q p.1
+    ∙ ap (or_else (find name_cmp q files)) (fin.get-insert nat_list_cmp_total before file.0 file.1 q)
+    ∙ chosen (eq_by_cmp name_cmp q file.0) (find name_cmp q files) (fin.get before q) file.1 (λ tie. find_below q file.0 files (tied _ tie) p.0)
+
+or_none : (found : Option (List ℕ)) → or_else found None ≡ found
+or_none None = refl
+or_none (Some bytes) = refl
+
+-- the entries of a map, one after another onto nothing, give that map
+all_inserted : (files : FileMap) → inserted fin.empty (fin.entries files) ≡ files
+all_inserted files =
+    fin.same_map nat_list_cmp_total (fin.slice_cmp-IsAntisymmetric fin.nat_cmp-IsAntisymmetric) (inserted fin.empty (fin.entries files)) files
+    (λ q. get_inserted fin.empty (fin.entries files) q (fin.entries_sorted files)
+    ∙ ap (or_else (find name_cmp q (fin.entries files))) (fin.get-empty name_cmp q)
+    ∙ or_none (find name_cmp q (fin.entries files)) ∙ sym (fin.get-entries files q))
+
+pub afresh : (files : FileMap) (old new : Option Held) → new ≡ option_map (stages_all (fin.entries files)) old → StagesAfresh files old new
+afresh files None new is = tt
+afresh files (Some held) new is = λ none.
+    is ∙ ap Some (staged_inserted (fin.entries files) held
+    ∙ ap (λ (m : FileMap). record held { staged = m }) (ap (λ (m : FileMap). inserted m (fin.entries files)) none ∙ all_inserted files))
+
+-- ---- an error
+
+pub on_err : {T E : Type 0} (result : Result T E) {fact : Type 0} → fact → OnErr result fact
+on_err (Ok value) is = tt
+on_err (Err error) is = is

@@ -1,0 +1,10 @@
+pub mod Names
+pub mod Rows
+pub mod Printed
+pub mod Stops
+pub mod Shelf
+pub mod Stored
+pub mod Adding
+pub mod Staged
+pub mod StoredPuts
+pub mod Staging

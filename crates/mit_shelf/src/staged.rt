@@ -1,0 +1,100 @@
+//! The writes of a run until they are its files.
+ghost use Rattle.std.specs.Prelude.{◌≡◌, [], IfOk, OnErr, OnOk};
+ghost use Rattle.mit_shelf.specs.Printed.{published};
+ghost use Rattle.mit_shelf.specs.Staged.{IsFree, is_below, with_put, writes_of};
+ghost use Rattle.mit_shelf.specs.StoredPuts.{IsFirstAbove};
+
+use crate::printed::print_rows;
+use mit_rows::Bag;
+use mit_world::Files;
+use std::alloc::{AllocError, Global};
+use std::marker::Model;
+
+/// What a run wrote so far. In whatever order the writes are put, those of a name count by their places in the run.
+#[derive(Drop)]
+pub struct Staged {
+    alloc: Global,
+    // rising by place and index
+    puts: Vec<Put>,
+}
+
+#[derive(Drop)]
+struct Put {
+    place: u64,
+    index: u32,
+    name: String,
+    bag: Bag,
+}
+
+impl Model for Staged {
+    ghost use Rattle.std.specs.Prelude.{List, map};
+    ghost use Rattle.mit_shelf.specs.Staged.{Put as OnePut};
+    ghost use Rattle.mit_shelf.specs.StoredPuts.{put_of};
+
+    ghost Value = { List OnePut };
+
+    ghost view = { λ staged. map put_of staged.puts.items };
+}
+
+impl Staged {
+    /// Nothing is written.
+    pub fn new(alloc: Global) -> Staged
+        ensures { result ≡ [] }
+    {
+        Staged {
+            alloc,
+            puts: Vec::new(alloc),
+        }
+    }
+
+    /// Puts a write of this bag under this name: at this place of the run, and of this index among the place's writes.
+    pub fn put(&mut self, place: u64, index: u32, name: &str, bag: &Bag) -> Result<(), AllocError>
+        requires { IsFree self.old (place, index) }
+        ensures ok { OnOk result (self.new ≡ with_put ((place, index), (name.now, bag.now)) self.old) }
+        ensures err { OnErr result (self.new ≡ self.old) }
+    {
+        let name = String::from_str(self.alloc, name)?;
+        let bag = bag.copy(self.alloc)?;
+        let put = Put {
+            place,
+            index,
+            name,
+            bag,
+        };
+        let above = first_above(&self.puts, place, index);
+        Ok(self.puts.insert(above, put)?)
+    }
+
+    /// The files of the run: each name with the text of the bag that was written last under it.
+    pub fn finish(&self) -> Result<Files, AllocError>
+        ensures { IfOk result (λ files. files ≡ published (writes_of self.now)) }
+    {
+        let mut files = Files::new(self.alloc);
+        for put in &self.puts {
+            let text = print_rows(self.alloc, &put.bag)?;
+            files.put(put.name.as_str(), &text)?;
+        }
+        Ok(files)
+    }
+}
+
+// Where the first put above this pair stands, or how many puts there are.
+fn first_above(puts: &[Put], place: u64, index: u32) -> usize
+    ensures { IsFirstAbove puts.now (place, index) result }
+{
+    for (at, put) in puts.iter().enumerate() {
+        if put.is_above(place, index) {
+            return at;
+        }
+    }
+    puts.len()
+}
+
+impl Put {
+    // Whether it stands above this pair.
+    fn is_above(&self, place: u64, index: u32) -> bool
+        ensures { result ≡ is_below (place, index) (self.now.place, self.now.index) }
+    {
+        place < self.place || (place == self.place && index < self.index)
+    }
+}
