@@ -10,7 +10,6 @@ use Rattle.mit_script.specs.Reading.{Reading, behind, begins_statement, chain_fr
 use Rattle.mit_script.specs.declared.tree.Stmt.{Stmt}
 use Rattle.mit_parse.specs.declared.stop.Stop.{Stop}
 use Rattle.mit_parse.specs.declared.stop.Stop.TheVariants as stop
-use Rattle.mit_script.specs.Grammar.{kinds}
 use Rattle.mit_parse.specs.Gives.{Stops}
 
 -- one item more at the end of those before
@@ -45,7 +44,7 @@ unfolding listed
 listed_stops stop.NoMemory item front turns i tokens total lt h so_far = tt
 listed_stops (stop.Refused rest) item front turns i tokens total lt h so_far =
     let k : turns - i ≡ suc (turns - (i + 1)) = omega arith in
-    let one : with_front front (listed item (turns - i) tokens) ≡ Err (kinds rest.now) = rw (k, h) refl in
+    let one : with_front front (listed item (turns - i) tokens) ≡ Err rest = rw (k, h) refl in
     sym so_far ∙ one
 
 pub listed_runs_out : {A : Type 0} (item : Kinds → Reading A) (front : List A) (turns i : ℕ) (tokens : Kinds) (total : Reading (List A))
@@ -82,7 +81,7 @@ unfolding chain_from
 chain_stops stop.NoMemory operand rank turns i left tokens op total lt found h so_far = tt
 chain_stops (stop.Refused rest) operand rank turns i left tokens op total lt found h so_far =
     let k : turns - i ≡ suc (turns - (i + 1)) = omega arith in
-    let one : chain_from operand rank (turns - i) left tokens ≡ Err (kinds rest.now) = rw (k, found, h) refl in
+    let one : chain_from operand rank (turns - i) left tokens ≡ Err rest = rw (k, found, h) refl in
     sym so_far ∙ one
 
 pub chain_runs_out : (operand : Kinds → Reading Expr) (rank turns i : ℕ) (left : Expr) (tokens : Kinds) (total : Reading Expr)
@@ -123,8 +122,8 @@ statements_stop stop.NoMemory names most front left i tokens total lt begins h s
 statements_stop (stop.Refused rest) names most front left i tokens total lt begins h so_far =
     let k : left - i ≡ suc (left - (i + 1)) = omega arith in
     let same : left - i - 1 ≡ left - (i + 1) = omega arith in
-    let h2 : statement (statements names most (left - (i + 1))) names most tokens ≡ Err (kinds rest.now) = rw (← same) h in
-    let one : with_front front (statements names most (left - i) tokens) ≡ Err (kinds rest.now) = rw (k, begins, h2) refl in
+    let h2 : statement (statements names most (left - (i + 1))) names most tokens ≡ Err rest = rw (← same) h in
+    let one : with_front front (statements names most (left - i) tokens) ≡ Err rest = rw (k, begins, h2) refl in
     sym so_far ∙ one
 
 pub statements_run_out : (names : List (List ℕ)) (most : ℕ) (front : List Stmt) (left i : ℕ) (tokens : Kinds) (total : Reading (List Stmt))

@@ -1,70 +1,83 @@
 -- Where a text is refused whose tokens stop being read.
-use Rattle.std.proofs.Common.{◌≡◌, ℕ, ◌-◌, ◌+◌, ◌<◌, List, [], ◌∷◌, ◌++◌, length, Some, None, Result, Ok, Err, refl, sym, ap, subst, ◌∙◌, arith}
-use Rattle.std.specs.Prelude.{MatchResult, slice_get}
-use Rattle.std.proofs.lemmas.List.{append-nil, length-append, length-map, map_push}
-use Rattle.std.proofs.Math.Seq.{get_or-append_seam}
-use Rattle.std.proofs.lemmas.Option.{slice_get-get_or, slice_get_past}
+use Rattle.std.proofs.Common.{◌≡◌, ℕ, ◌-◌, List, [], ◌∷◌, ◌++◌, length, drop, Result, Ok, Err, refl, sym, ap, subst, ◌∙◌, ◌⊎◌, inl, inr, arith, length-append}
+use Rattle.std.specs.Prelude.{All, MatchResult}
+use Rattle.std.proofs.Math.Seq.{drop-append_seam}
+use Rattle.std.proofs.lemmas.List.{length-map}
+use Rattle.std.proofs.lemmas.List.Elements.{All-map}
 use Rattle.mit_lex.specs.Tokens.{tokens_of}
+use Rattle.mit_lex.specs.Valid.{IsToken}
 use Rattle.mit_lex.specs.declared.token.Token.{Token}
-use Rattle.mit_lex.specs.declared.token.TokenKind.{TokenKind}
-use Rattle.mit_script.specs.Grammar.{CanGoOn, Kinds, Spells, StopsBefore}
+use Rattle.mit_script.specs.Grammar.{CanGoOn, IsRefused, IsSpelled, Kinds, Spells, StopsBefore, kinds}
+use Rattle.mit_script.specs.PrintsBack.{CanBeSpelled}
+use Rattle.mit_script.specs.Reading.{read_script}
 use Rattle.mit_script.specs.declared.tree.Script.{Script}
-use Rattle.mit_script.specs.Grammar.{kinds}
-use Rattle.mit_parse.specs.Places.{IsRefusedAt, at_end, at_token, refusal_place}
+use Rattle.mit_parse.specs.Places.{IsRefusedAt, before, no_tokens, start_of}
 
--- tokens, cut at one of a kind behind these
-record Cut (tokens : List Token) (front : Kinds) (kind : TokenKind) : Type 0 where
-  before : List Token
-  token : Token
-  behind : List Token
-  whole : tokens ≡ before ++ token ∷ behind
-  same : kinds before ≡ front
-  is : token.kind ≡ kind
+-- tokens, cut where their kinds are
+record Cut (tokens : List Token) (front rest : Kinds) : Type 0 where
+  first : List Token
+  left : List Token
+  whole : tokens ≡ first ++ left
+  first_is : kinds first ≡ front
+  left_is : kinds left ≡ rest
 
-cut_at : (tokens : List Token) (front : Kinds) (kind : TokenKind) (later : Kinds) → kinds tokens ≡ front ++ kind ∷ later → Cut tokens front kind
-cut_at [] [] kind later e = absurd cc
-cut_at [] (first ∷ front) kind later e = absurd cc
-cut_at (token ∷ tokens) [] kind later e = record { before = []; token = token; behind = tokens; whole = refl; same = refl; is = cc }
-cut_at (token ∷ tokens) (first ∷ front) kind later e =
-    let rest : kinds tokens ≡ front ++ kind ∷ later = cc in
-    let head : token.kind ≡ first = cc in
-    let cut = cut_at tokens front kind later rest in
-    record { before = token ∷ cut.before; token = cut.token; behind = cut.behind; whole = ap (λ (l : List Token). token ∷ l) cut.whole; same = rw (head, cut.same) refl; is = cut.is }
+cut_at : (tokens : List Token) (front rest : Kinds) → kinds tokens ≡ front ++ rest → Cut tokens front rest
+cut_at tokens [] rest e = record { first = []; left = tokens; whole = refl; first_is = refl; left_is = e }
+cut_at [] (kind ∷ front) rest e = absurd cc
+cut_at (token ∷ tokens) (kind ∷ front) rest e =
+    let same : kinds tokens ≡ front ++ rest = cc in
+    let head : token.kind ≡ kind = cc in
+    let cut = cut_at tokens front rest same in
+    record { first = token ∷ cut.first; left = cut.left; whole = ap (λ (l : List Token). token ∷ l) cut.whole; first_is = rw (head, cut.first_is) refl; left_is = cut.left_is }
 
-got : (before behind : List Token) (token : Token) → slice_get (before ++ token ∷ behind) (length before) ≡ Some token
-got before behind token =
-    let inside : length before < length (before ++ token ∷ behind) = omega (arith, length-append before (token ∷ behind)) in
-    slice_get-get_or (before ++ token ∷ behind) (length before) token inside ∙ ap (λ (t : Token). Some t) (get_or-append_seam before token behind token)
+last_is : (first left : List Token) (count : ℕ) → length left ≡ count → drop (length (first ++ left) - count) (first ++ left) ≡ left
+last_is first left count size =
+    let at : length (first ++ left) - count ≡ length first = omega (arith, size, length-append first left) in
+    rw at (drop-append_seam first left)
 
 -- the place of a refusal, by the tokens that are left
-pub place_is : (text : List ℕ) (tokens rest : List Token) → tokens_of text ≡ Ok tokens → StopsBefore (kinds tokens) (kinds rest)
-    → IsRefusedAt text (refusal_place text tokens (length rest))
-place_is text tokens [] found stops =
-    let front : stops.front ≡ kinds tokens = sym (stops.cut ∙ append-nil stops.front) in
-    let none : slice_get tokens (length tokens - 0) ≡ None = slice_get_past tokens (length tokens - 0) (omega arith) in
-    rw none
-    (at_end tokens found (subst CanGoOn front stops.goes_on) (λ script spelled. stops.refused script (subst (λ (k : Kinds). Spells script k) (sym front) spelled)))
-place_is text tokens (next ∷ rest) found stops =
-    let cut = cut_at tokens stops.front next.kind (kinds rest) stops.cut in
-    let size : length (kinds tokens) ≡ length tokens = length-map tokens (λ (t : Token). t.kind) in
-    let parts : length (kinds tokens) ≡ length stops.front + length (kinds (next ∷ rest)) = ap (λ (k : Kinds). length k) stops.cut ∙ length-append stops.front (kinds (next ∷ rest)) in
-    let left : length (kinds (next ∷ rest)) ≡ length (next ∷ rest) = length-map (next ∷ rest) (λ (t : Token). t.kind) in
-    let before : length (kinds cut.before) ≡ length cut.before = length-map cut.before (λ (t : Token). t.kind) in
-    let front : length (kinds cut.before) ≡ length stops.front = ap (λ (k : Kinds). length k) cut.same in
-    let at : length tokens - length (next ∷ rest) ≡ length cut.before = omega (arith, size, parts, left, before, front) in
-    let here : slice_get tokens (length tokens - length (next ∷ rest)) ≡ Some cut.token =
-    rw at (ap (λ (l : List Token). slice_get l (length cut.before)) cut.whole ∙ got cut.before cut.behind cut.token) in
-    let more : stops.front ++ next.kind ∷ [] ≡ kinds (cut.before ++ cut.token ∷ []) =
-    sym (map_push (λ (t : Token). t.kind) cut.before cut.token ∙ rw (cut.same, cut.is) refl) in
-    rw here
-    (at_token cut.before cut.behind cut.token (found ∙ ap (λ (l : List Token). Ok l) cut.whole) (subst CanGoOn (sym cut.same) stops.goes_on)
-    (λ goes_on. stops.refused (subst CanGoOn (sym more) goes_on)))
+place_is : (text : List ℕ) (tokens : List Token) (rest : Kinds) → tokens_of text ≡ Ok tokens → StopsBefore (kinds tokens) rest
+    → IsRefusedAt text (start_of text (drop (length tokens - length rest) tokens))
+place_is text tokens rest found stops =
+    let cut = cut_at tokens stops.front rest stops.cut in
+    let count : length cut.left ≡ length rest = sym (length-map cut.left (λ (t : Token). t.kind)) ∙ ap (λ (k : Kinds). length k) cut.left_is in
+    let left : drop (length tokens - length rest) tokens ≡ cut.left =
+    ap (λ (l : List Token). drop (length l - length rest) l) cut.whole ∙ last_is cut.first cut.left (length rest) count in
+    let refused : IsRefused (kinds cut.first) (kinds cut.left) =
+    subst (λ (f : Kinds). IsRefused f (kinds cut.left)) (sym cut.first_is) (subst (λ (l : Kinds). IsRefused stops.front l) (sym cut.left_is) stops.refused) in
+    subst (λ (l : List Token). IsRefusedAt text (start_of text l)) (sym left)
+    (before cut.first cut.left (found ∙ ap (λ (l : List Token). Ok l) cut.whole) (subst CanGoOn (sym cut.first_is) stops.goes_on) refused)
 
 -- where reading stopped, a text is refused at the place of the first token left
-pub refused_place : (text : List ℕ) (tokens rest : List Token) (outcome : Result Script Kinds) (place : ℕ) → tokens_of text ≡ Ok tokens → outcome ≡ Err (kinds rest)
-    → MatchResult outcome (λ script. Spells script (kinds tokens)) (λ behind. StopsBefore (kinds tokens) behind) → place ≡ refusal_place text tokens (length rest)
-    → IsRefusedAt text place
+pub refused_place : (text : List ℕ) (tokens : List Token) (rest : Kinds) (outcome : Result Script Kinds) (place : ℕ) → tokens_of text ≡ Ok tokens → outcome ≡ Err rest
+    → MatchResult outcome (λ script. Spells script (kinds tokens)) (λ rest. StopsBefore (kinds tokens) rest)
+    → place ≡ start_of text (drop (length tokens - length rest) tokens) → IsRefusedAt text place
 refused_place text tokens rest outcome place read is law at =
-    let stops : StopsBefore (kinds tokens) (kinds rest) =
-    subst (λ (o : Result Script Kinds). MatchResult o (λ script. Spells script (kinds tokens)) (λ behind. StopsBefore (kinds tokens) behind)) is law in
+    let stops : StopsBefore (kinds tokens) rest =
+    subst (λ (o : Result Script Kinds). MatchResult o (λ script. Spells script (kinds tokens)) (λ rest. StopsBefore (kinds tokens) rest)) is law in
     subst (λ (p : ℕ). IsRefusedAt text p) (sym at) (place_is text tokens rest read stops)
+
+-- a script that was read of valid tokens can be spelled
+pub spelled_back : (tokens : List Token) (outcome : Result Script Kinds) (script : Script) → All (λ token. IsToken token.kind) tokens → outcome ≡ Ok script
+    → MatchResult outcome (λ script. Spells script (kinds tokens)) (λ rest. StopsBefore (kinds tokens) rest) → CanBeSpelled script
+spelled_back tokens outcome script valid is law =
+    let spelled : Spells script (kinds tokens) =
+    subst (λ (o : Result Script Kinds). MatchResult o (λ script. Spells script (kinds tokens)) (λ rest. StopsBefore (kinds tokens) rest)) is law in
+    record { tokens = kinds tokens; valid = All-map IsToken (λ (t : Token). t.kind) tokens valid; spelled = spelled }
+
+-- a text spells a script, or is refused somewhere
+by_reading : (text : List ℕ) (tokens : List Token) (outcome : Result Script Kinds) → tokens_of text ≡ Ok tokens
+    → MatchResult outcome (λ script. Spells script (kinds tokens)) (λ rest. StopsBefore (kinds tokens) rest)
+    → ((script : Script) × IsSpelled text script) ⊎ ((place : ℕ) × IsRefusedAt text place)
+by_reading text tokens (Ok script) read law = inl (script, record { tokens = tokens; read = read; spelled = law })
+by_reading text tokens (Err rest) read law = inr (start_of text (drop (length tokens - length rest) tokens), place_is text tokens rest read law)
+
+by_tokens : (text : List ℕ) (found : Result (List Token) ℕ) → tokens_of text ≡ found
+    → ((tokens : Kinds) → MatchResult (read_script tokens) (λ script. Spells script tokens) (λ rest. StopsBefore tokens rest))
+    → ((script : Script) × IsSpelled text script) ⊎ ((place : ℕ) × IsRefusedAt text place)
+by_tokens text (Ok tokens) read law = by_reading text tokens (read_script (kinds tokens)) read (law (kinds tokens))
+by_tokens text (Err place) read law = inr (place, no_tokens read)
+
+pub read_or_refused : ((tokens : Kinds) → MatchResult (read_script tokens) (λ script. Spells script tokens) (λ rest. StopsBefore tokens rest))
+    → (text : List ℕ) → ((script : Script) × IsSpelled text script) ⊎ ((place : ℕ) × IsRefusedAt text place)
+read_or_refused law text = by_tokens text (tokens_of text) refl law

@@ -1,15 +1,19 @@
--- What a reader of slices of tokens gives, seen as what is read from a list.
+-- A device of the proofs: nobody has to believe it. What a reader of the tokens ahead returns, beside what is read of a list.
 use Rattle.std.specs.Prelude.{◌≡◌, Result, Ok, Err}
-use Rattle.mit_script.specs.Grammar.{Kinds, kinds}
+use Rattle.mit_script.specs.Grammar.{Kinds}
 use Rattle.mit_parse.specs.declared.stop.Stop.{Stop}
 use Rattle.mit_parse.specs.declared.stop.Stop.TheVariants as stop
 
 -- reading stops before the token that was refused, unless memory ran out
 abbrev pub Stops : {Y : Type 0} → Stop → Result Y Kinds → Type 0
 Stops stop.NoMemory read = Unit {0}
-Stops (stop.Refused rest) read = read ≡ Err (kinds rest.now)
+Stops (stop.Refused rest) read = read ≡ Err rest
 
--- what a function returned, seen by `view`, is what reading gives, unless memory ran out
-abbrev pub Gives : {X Y : Type 0} → (X → Y) → Result X Stop → Result Y Kinds → Type 0
-Gives view (Ok x) read = read ≡ Ok (view x)
-Gives view (Err stop) read = Stops stop read
+-- what a function returned is what reading gives, unless memory ran out; and so it is where it is seen by `view`
+abbrev pub Gives : {Y : Type 0} → Result Y Stop → Result Y Kinds → Type 0
+Gives (Ok x) read = read ≡ Ok x
+Gives (Err stop) read = Stops stop read
+
+abbrev pub GivesAs : {X Y : Type 0} → (X → Y) → Result X Stop → Result Y Kinds → Type 0
+GivesAs view (Ok x) read = read ≡ Ok (view x)
+GivesAs view (Err stop) read = Stops stop read

@@ -1,4 +1,4 @@
--- How many tokens stand in the runs of a text.
+-- A device of the proofs: nobody has to believe it. How many tokens stand in the runs of a text.
 use Rattle.std.specs.Prelude.{◌≤◌, [], ◌∷◌, length, ⊤}
 use Rattle.mit_script.specs.Grammar.{Kinds}
 use Rattle.mit_script.specs.Reading.{run_of}

@@ -1,10 +1,10 @@
--- Names that are borrowed from tokens, and the end of an operator.
+-- A device of the proofs: nobody has to believe it. Names that are borrowed from tokens, and the end of an operator.
 use Rattle.std.specs.Prelude.{◌≤◌, ℕ, List, length, map, Ok}
 use Rattle.std.specs.Borrow.{Bor}
 use Rattle.mit_ops.specs.Kinds.{bag_inputs_of}
 use Rattle.mit_ops.specs.declared.kinds.OpSpec.{OpSpec}
 use Rattle.mit_script.specs.Grammar.{Kinds, arguments_in}
-use Rattle.mit_script.specs.Reading.{◌>>=◌, Operation, Reading, expect_symbol, run_of}
+use Rattle.mit_script.specs.Reading.{◌>>=◌, Operation, Reading, expect_symbol}
 
 -- a name has 1 to 64 bytes
 abbrev pub IsShortName : List ℕ → Type 0
@@ -14,7 +14,7 @@ IsShortName name = (1 ≤ length name) × (length name ≤ 64)
 abbrev pub words_of : List (Bor (List ℕ)) → List (List ℕ)
 words_of words = map (λ word. word.now) words
 
--- an operator over the arguments of a run, behind which this symbol stands
+-- an operator over the arguments of its run, after which this symbol stands
 abbrev pub closed : ℕ → List (List ℕ) → OpSpec → Kinds → Kinds → Reading Operation
-closed ending names op tokens rest =
-    expect_symbol ending rest >>= λ end. Ok ((op, arguments_in names (bag_inputs_of op) (run_of tokens)), end.1)
+closed ending names op run rest =
+    expect_symbol ending rest >>= λ end. Ok ((op, arguments_in names (bag_inputs_of op) run), end.1)

@@ -3,15 +3,15 @@ ghost use Rattle.std.specs.Prelude.{◌≡◌, ◌≤◌, ◌-◌, ◌∷◌};
 ghost use Rattle.mit_lex.specs.declared.token.TokenKind.TheVariants.{Keyword};
 ghost use Rattle.mit_script.specs.Grammar.{number_in};
 ghost use Rattle.mit_script.specs.Reading as spec;
-ghost use Rattle.mit_script.specs.Grammar.{kinds};
 ghost use Rattle.mit_parse.specs.Gives.{Gives};
 
+use crate::ahead::Ahead;
 use crate::names::CapturedNames;
 use crate::operators::{binary, call_of_word, negated, ranked_operator};
 use crate::stop::Stop;
-use crate::tokens::{behind, expect_symbol, sees_word};
+use crate::tokens::{after_next, expect_symbol, sees_word};
 use mit_expr::{Call, Expr};
-use mit_lex::{Token, TokenKind, keyword, symbol};
+use mit_lex::{TokenKind, keyword, symbol};
 use mit_rows::Value;
 use sqlite_items::Boxed;
 use std::alloc::Global;
@@ -25,19 +25,15 @@ const COMPARISON: u8 = 3;
 /// The rank of what stands alone.
 const ALONE: u8 = 7;
 
-/// The number behind a `-`.
+/// The number after a `-`.
 #[tactic(auto, unfolding(mit_script::specs::Reading::negative_at))]
-fn negative_at(tokens: &[Token]) -> Result<(Expr, &[Token]), Stop<'_>>
-    ensures { Gives (λ x. (x.0, kinds x.1.now)) result (spec.negative_at (kinds tokens.now)) }
+fn negative_at(tokens: Ahead<'_>) -> Result<(Expr, Ahead<'_>), Stop<'_>>
+    ensures { Gives result (spec.negative_at tokens.entry) }
 {
-    let [
-        Token {
-            kind: TokenKind::Number(size),
-            ..
-        },
-        rest @ ..,
-    ] = tokens
-    else {
+    let Some((kind, rest)) = tokens.next() else {
+        return Err(Stop::Refused(tokens));
+    };
+    let TokenKind::Number(size) = kind else {
         return Err(Stop::Refused(tokens));
     };
     match negated(*size) {
@@ -46,17 +42,17 @@ fn negative_at(tokens: &[Token]) -> Result<(Expr, &[Token]), Stop<'_>>
     }
 }
 
-/// An expression behind a `(`, up to and with its `)`.
+/// An expression after a `(`, up to and with its `)`.
 #[cycle(expression)]
 #[tactic(auto, unfolding(mit_script::specs::Reading::enclosed_at))]
 fn enclosed_at<'a>(
     alloc: Global,
     captured: &CapturedNames<'_>,
     depth: usize,
-    tokens: &'a [Token],
-) -> Result<(Expr, &'a [Token]), Stop<'a>>
-    ensures { Gives (λ x. (x.0, kinds x.1.now)) result
-        (spec.enclosed_at (spec.expression (number_in captured.now) depth 7) (kinds tokens.now)) }
+    tokens: Ahead<'a>,
+) -> Result<(Expr, Ahead<'a>), Stop<'a>>
+    ensures { Gives result
+        (spec.enclosed_at (spec.expression (number_in captured.now) depth 7) tokens.entry) }
 {
     let (inner, rest) = expression(alloc, captured, depth, ALONE, tokens)?;
     let rest = expect_symbol(symbol::RIGHT_PAREN, rest)?;
@@ -71,10 +67,10 @@ fn called_at<'a>(
     captured: &CapturedNames<'_>,
     depth: usize,
     call: Call,
-    tokens: &'a [Token],
-) -> Result<(Expr, &'a [Token]), Stop<'a>>
-    ensures { Gives (λ x. (x.0, kinds x.1.now)) result
-        (spec.called_at (spec.expression (number_in captured.now) depth 7) call (kinds tokens.now)) }
+    tokens: Ahead<'a>,
+) -> Result<(Expr, Ahead<'a>), Stop<'a>>
+    ensures { Gives result
+        (spec.called_at (spec.expression (number_in captured.now) depth 7) call tokens.entry) }
 {
     let rest = expect_symbol(symbol::LEFT_PAREN, tokens)?;
     let (arg, rest) = enclosed_at(alloc, captured, depth, rest)?;
@@ -89,12 +85,12 @@ fn by_word<'a>(
     captured: &CapturedNames<'_>,
     depth: usize,
     place: u8,
-    tokens: &'a [Token],
-    rest: &'a [Token],
-) -> Result<(Expr, &'a [Token]), Stop<'a>>
-    requires { kinds tokens.now ≡ Keyword place ∷ kinds rest.now }
-    ensures { Gives (λ x. (x.0, kinds x.1.now)) result
-        (spec.primary_by (spec.expression (number_in captured.now) depth 7) (number_in captured.now) (Keyword place) (kinds rest.now)) }
+    tokens: Ahead<'a>,
+    rest: Ahead<'a>,
+) -> Result<(Expr, Ahead<'a>), Stop<'a>>
+    requires { tokens ≡ Keyword place ∷ rest }
+    ensures { Gives result
+        (spec.primary_by (spec.expression (number_in captured.now) depth 7) (number_in captured.now) (Keyword place) rest.entry) }
 {
     if place == keyword::TRUE {
         return Ok((Expr::Lit(Value::Bool(true)), rest));
@@ -115,15 +111,15 @@ fn primary<'a>(
     alloc: Global,
     captured: &CapturedNames<'_>,
     depth: usize,
-    tokens: &'a [Token],
-) -> Result<(Expr, &'a [Token]), Stop<'a>>
-    ensures { Gives (λ x. (x.0, kinds x.1.now)) result
-        (spec.primary (spec.expression (number_in captured.now) depth 7) (number_in captured.now) (kinds tokens.now)) }
+    tokens: Ahead<'a>,
+) -> Result<(Expr, Ahead<'a>), Stop<'a>>
+    ensures { Gives result
+        (spec.primary (spec.expression (number_in captured.now) depth 7) (number_in captured.now) tokens.entry) }
 {
-    let [token, rest @ ..] = tokens else {
+    let Some((kind, rest)) = tokens.next() else {
         return Err(Stop::Refused(tokens));
     };
-    match &token.kind {
+    match kind {
         TokenKind::Number(size) => match i64::try_from(*size) {
             Ok(number) => Ok((Expr::Lit(Value::Int(number)), rest)),
             Err(_) => Err(Stop::Refused(tokens)),
@@ -138,7 +134,7 @@ fn primary<'a>(
     }
 }
 
-/// The operators of one rank, and what stands behind each.
+/// The operators of one rank, and what stands after each.
 #[cycle(expression)]
 fn chain_from<'a>(
     alloc: Global,
@@ -146,20 +142,20 @@ fn chain_from<'a>(
     depth: usize,
     below: u8,
     left: Expr,
-    tokens: &'a [Token],
-) -> Result<(Expr, &'a [Token]), Stop<'a>>
+    tokens: Ahead<'a>,
+) -> Result<(Expr, Ahead<'a>), Stop<'a>>
     requires { below ≤ 6 }
-    ensures { Gives (λ x. (x.0, kinds x.1.now)) result
+    ensures { Gives result
         (spec.chain_from (spec.ranked (spec.expression (number_in captured.now) depth) (number_in captured.now) depth below)
-        (6 - below) depth left (kinds tokens.now)) }
+        (6 - below) depth left tokens.entry) }
 {
     let mut left = left;
     let mut rest = tokens;
     for _ in 0..depth {
-        let Some(op) = ranked_operator(6 - below, rest) else {
+        let Some(op) = ranked_operator(6 - below, &rest) else {
             return Ok((left, rest));
         };
-        let (right, after) = ranked(alloc, captured, depth, below, behind(rest))?;
+        let (right, after) = ranked(alloc, captured, depth, below, after_next(rest))?;
         left = binary(alloc, op, left, right)?;
         rest = after;
     }
@@ -174,12 +170,12 @@ fn chain<'a>(
     captured: &CapturedNames<'_>,
     depth: usize,
     below: u8,
-    tokens: &'a [Token],
-) -> Result<(Expr, &'a [Token]), Stop<'a>>
+    tokens: Ahead<'a>,
+) -> Result<(Expr, Ahead<'a>), Stop<'a>>
     requires { below ≤ 6 }
-    ensures { Gives (λ x. (x.0, kinds x.1.now)) result
+    ensures { Gives result
         (spec.chain (spec.ranked (spec.expression (number_in captured.now) depth) (number_in captured.now) depth below)
-        (6 - below) depth (kinds tokens.now)) }
+        (6 - below) depth tokens.entry) }
 {
     let (left, rest) = ranked(alloc, captured, depth, below, tokens)?;
     chain_from(alloc, captured, depth, below, left, rest)
@@ -193,19 +189,19 @@ fn comparison<'a>(
     captured: &CapturedNames<'_>,
     depth: usize,
     below: u8,
-    tokens: &'a [Token],
-) -> Result<(Expr, &'a [Token]), Stop<'a>>
+    tokens: Ahead<'a>,
+) -> Result<(Expr, Ahead<'a>), Stop<'a>>
     requires { below ≤ 6 }
-    ensures { Gives (λ x. (x.0, kinds x.1.now)) result
+    ensures { Gives result
         (spec.comparison (spec.ranked (spec.expression (number_in captured.now) depth) (number_in captured.now) depth below)
-        (kinds tokens.now)) }
+        tokens.entry) }
 {
     let (left, rest) = ranked(alloc, captured, depth, below, tokens)?;
-    let Some(op) = ranked_operator(COMPARISON, rest) else {
+    let Some(op) = ranked_operator(COMPARISON, &rest) else {
         return Ok((left, rest));
     };
-    let (right, rest) = ranked(alloc, captured, depth, below, behind(rest))?;
-    if ranked_operator(COMPARISON, rest).is_some() {
+    let (right, rest) = ranked(alloc, captured, depth, below, after_next(rest))?;
+    if ranked_operator(COMPARISON, &rest).is_some() {
         return Err(Stop::Refused(rest));
     }
     Ok((binary(alloc, op, left, right)?, rest))
@@ -219,17 +215,17 @@ fn negation<'a>(
     captured: &CapturedNames<'_>,
     depth: usize,
     below: u8,
-    tokens: &'a [Token],
-) -> Result<(Expr, &'a [Token]), Stop<'a>>
+    tokens: Ahead<'a>,
+) -> Result<(Expr, Ahead<'a>), Stop<'a>>
     requires { below ≤ 6 }
-    ensures { Gives (λ x. (x.0, kinds x.1.now)) result
+    ensures { Gives result
         (spec.negation (spec.expression (number_in captured.now) depth 5)
-        (spec.ranked (spec.expression (number_in captured.now) depth) (number_in captured.now) depth below) (kinds tokens.now)) }
+        (spec.ranked (spec.expression (number_in captured.now) depth) (number_in captured.now) depth below) tokens.entry) }
 {
-    if !sees_word(keyword::NOT, tokens) {
+    if !sees_word(keyword::NOT, &tokens) {
         return ranked(alloc, captured, depth, below, tokens);
     }
-    let (arg, rest) = expression(alloc, captured, depth, ALONE - NEGATION, behind(tokens))?;
+    let (arg, rest) = expression(alloc, captured, depth, ALONE - NEGATION, after_next(tokens))?;
     Ok((Expr::Not(Boxed::new(alloc, arg)?), rest))
 }
 
@@ -241,11 +237,11 @@ fn ranked<'a>(
     captured: &CapturedNames<'_>,
     depth: usize,
     below: u8,
-    tokens: &'a [Token],
-) -> Result<(Expr, &'a [Token]), Stop<'a>>
+    tokens: Ahead<'a>,
+) -> Result<(Expr, Ahead<'a>), Stop<'a>>
     requires { below ≤ 7 }
-    ensures { Gives (λ x. (x.0, kinds x.1.now)) result
-        (spec.ranked (spec.expression (number_in captured.now) depth) (number_in captured.now) depth below (kinds tokens.now)) }
+    ensures { Gives result
+        (spec.ranked (spec.expression (number_in captured.now) depth) (number_in captured.now) depth below tokens.entry) }
 {
     if below == 0 {
         return primary(alloc, captured, depth, tokens);
@@ -268,11 +264,11 @@ pub(crate) fn expression<'a>(
     captured: &CapturedNames<'_>,
     depth: usize,
     below: u8,
-    tokens: &'a [Token],
-) -> Result<(Expr, &'a [Token]), Stop<'a>>
+    tokens: Ahead<'a>,
+) -> Result<(Expr, Ahead<'a>), Stop<'a>>
     requires { below ≤ 7 }
-    ensures { Gives (λ x. (x.0, kinds x.1.now)) result
-        (spec.expression (number_in captured.now) depth below (kinds tokens.now)) }
+    ensures { Gives result
+        (spec.expression (number_in captured.now) depth below tokens.entry) }
 {
     if depth == 0 {
         return Err(Stop::Refused(tokens));
@@ -285,10 +281,10 @@ pub(crate) fn any_expression<'a>(
     alloc: Global,
     captured: &CapturedNames<'_>,
     most: usize,
-    tokens: &'a [Token],
-) -> Result<(Expr, &'a [Token]), Stop<'a>>
-    ensures { Gives (λ x. (x.0, kinds x.1.now)) result
-        (spec.any_expression (number_in captured.now) most (kinds tokens.now)) }
+    tokens: Ahead<'a>,
+) -> Result<(Expr, Ahead<'a>), Stop<'a>>
+    ensures { Gives result
+        (spec.any_expression (number_in captured.now) most tokens.entry) }
 {
     expression(alloc, captured, most, ALONE, tokens)
 }

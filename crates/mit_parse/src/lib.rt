@@ -1,6 +1,7 @@
 //! The parser of scripts: from a text to its tree, or to the place of the first refusal.
 #![tactic(auto)]
 
+mod ahead;
 mod expr;
 pub mod laws;
 mod lists;
@@ -14,6 +15,3 @@ mod tokens;
 
 pub use script::parse;
 pub use stop::ParseStop;
-
-#[cfg(test)]
-mod tests;

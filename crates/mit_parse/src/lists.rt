@@ -2,15 +2,15 @@
 ghost use Rattle.std.specs.Prelude.{◌≡◌};
 ghost use Rattle.mit_script.specs.Grammar.{number_in};
 ghost use Rattle.mit_script.specs.Reading as spec;
-ghost use Rattle.mit_script.specs.Grammar.{kinds};
-ghost use Rattle.mit_parse.specs.Gives.{Gives};
+ghost use Rattle.mit_parse.specs.Gives.{Gives, GivesAs};
 
+use crate::ahead::Ahead;
 use crate::expr::any_expression;
 use crate::names::CapturedNames;
 use crate::stop::Stop;
-use crate::tokens::{behind, column_at, expect_symbol, sees_symbol, type_at};
+use crate::tokens::{after_next, expect_symbol, next_column, next_type, sees_symbol};
 use mit_expr::Expr;
-use mit_lex::{Token, symbol};
+use mit_lex::symbol;
 use mit_ops::{ColTypes, Columns, Exprs};
 use mit_rows::ColType;
 use std::alloc::Global;
@@ -19,19 +19,19 @@ use std::alloc::Global;
 fn listed_types(
     alloc: Global,
     turns: usize,
-    tokens: &[Token],
-) -> Result<(Vec<ColType>, &[Token]), Stop<'_>>
-    ensures { Gives (λ x. (x.0.items, kinds x.1.now)) result (spec.listed spec.type_at turns (kinds tokens.now)) }
+    tokens: Ahead<'_>,
+) -> Result<(Vec<ColType>, Ahead<'_>), Stop<'_>>
+    ensures { GivesAs (λ x. (x.0.items, x.1)) result (spec.listed spec.type_at turns tokens.entry) }
 {
     let mut items = Vec::new(alloc);
     let mut rest = tokens;
     for _ in 0..turns {
-        let (item, after) = type_at(rest)?;
+        let (item, after) = next_type(rest)?;
         items.push(item)?;
-        if !sees_symbol(symbol::COMMA, after) {
+        if !sees_symbol(symbol::COMMA, &after) {
             return Ok((items, after));
         }
-        rest = behind(after);
+        rest = after_next(after);
     }
     Err(Stop::Refused(rest))
 }
@@ -40,19 +40,19 @@ fn listed_types(
 fn listed_columns(
     alloc: Global,
     turns: usize,
-    tokens: &[Token],
-) -> Result<(Vec<u8>, &[Token]), Stop<'_>>
-    ensures { Gives (λ x. (x.0.items, kinds x.1.now)) result (spec.listed spec.column_at turns (kinds tokens.now)) }
+    tokens: Ahead<'_>,
+) -> Result<(Vec<u8>, Ahead<'_>), Stop<'_>>
+    ensures { GivesAs (λ x. (x.0.items, x.1)) result (spec.listed spec.column_at turns tokens.entry) }
 {
     let mut items = Vec::new(alloc);
     let mut rest = tokens;
     for _ in 0..turns {
-        let (item, after) = column_at(rest)?;
+        let (item, after) = next_column(rest)?;
         items.push(item)?;
-        if !sees_symbol(symbol::COMMA, after) {
+        if !sees_symbol(symbol::COMMA, &after) {
             return Ok((items, after));
         }
-        rest = behind(after);
+        rest = after_next(after);
     }
     Err(Stop::Refused(rest))
 }
@@ -62,20 +62,20 @@ fn listed_exprs<'a>(
     alloc: Global,
     captured: &CapturedNames<'_>,
     turns: usize,
-    tokens: &'a [Token],
-) -> Result<(Vec<Expr>, &'a [Token]), Stop<'a>>
-    ensures { Gives (λ x. (x.0.items, kinds x.1.now)) result
-        (spec.listed (spec.any_expression (number_in captured.now) turns) turns (kinds tokens.now)) }
+    tokens: Ahead<'a>,
+) -> Result<(Vec<Expr>, Ahead<'a>), Stop<'a>>
+    ensures { GivesAs (λ x. (x.0.items, x.1)) result
+        (spec.listed (spec.any_expression (number_in captured.now) turns) turns tokens.entry) }
 {
     let mut items = Vec::new(alloc);
     let mut rest = tokens;
     for _ in 0..turns {
         let (item, after) = any_expression(alloc, captured, turns, rest)?;
         items.push(item)?;
-        if !sees_symbol(symbol::COMMA, after) {
+        if !sees_symbol(symbol::COMMA, &after) {
             return Ok((items, after));
         }
-        rest = behind(after);
+        rest = after_next(after);
     }
     Err(Stop::Refused(rest))
 }
@@ -85,9 +85,9 @@ fn listed_exprs<'a>(
 pub(crate) fn types_at(
     alloc: Global,
     most: usize,
-    tokens: &[Token],
-) -> Result<(ColTypes, &[Token]), Stop<'_>>
-    ensures { Gives (λ x. (x.0, kinds x.1.now)) result (spec.types_at most (kinds tokens.now)) }
+    tokens: Ahead<'_>,
+) -> Result<(ColTypes, Ahead<'_>), Stop<'_>>
+    ensures { Gives result (spec.types_at most tokens.entry) }
 {
     let rest = expect_symbol(symbol::LEFT_PAREN, tokens)?;
     let (types, rest) = listed_types(alloc, most, rest)?;
@@ -99,9 +99,9 @@ pub(crate) fn types_at(
 pub(crate) fn columns_at(
     alloc: Global,
     most: usize,
-    tokens: &[Token],
-) -> Result<(Columns, &[Token]), Stop<'_>>
-    ensures { Gives (λ x. (x.0, kinds x.1.now)) result (spec.columns_at most (kinds tokens.now)) }
+    tokens: Ahead<'_>,
+) -> Result<(Columns, Ahead<'_>), Stop<'_>>
+    ensures { Gives result (spec.columns_at most tokens.entry) }
 {
     let (columns, rest) = listed_columns(alloc, most, tokens)?;
     Ok((Columns::from_vec(columns), rest))
@@ -113,9 +113,9 @@ pub(crate) fn exprs_at<'a>(
     alloc: Global,
     captured: &CapturedNames<'_>,
     most: usize,
-    tokens: &'a [Token],
-) -> Result<(Exprs, &'a [Token]), Stop<'a>>
-    ensures { Gives (λ x. (x.0, kinds x.1.now)) result (spec.exprs_at (number_in captured.now) most (kinds tokens.now)) }
+    tokens: Ahead<'a>,
+) -> Result<(Exprs, Ahead<'a>), Stop<'a>>
+    ensures { Gives result (spec.exprs_at (number_in captured.now) most tokens.entry) }
 {
     let rest = expect_symbol(symbol::LEFT_BRACKET, tokens)?;
     let (exprs, rest) = listed_exprs(alloc, captured, most, rest)?;

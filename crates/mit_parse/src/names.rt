@@ -1,15 +1,14 @@
 //! The names of variables, numbered in the order in which they appear first.
 ghost use Rattle.std.specs.Prelude.{◌≡◌, ◌≤◌, ◌++◌, drop, map, take, All, IfOk, length};
-ghost use Rattle.mit_lex.specs.Limits.{ends_run};
 ghost use Rattle.mit_lex.specs.Valid.{IsToken};
 ghost use Rattle.mit_script.specs.Grammar as spec;
 ghost use Rattle.mit_script.specs.Reading as reading;
 ghost use Rattle.mit_script.specs.Grammar.{kinds};
-ghost use Rattle.mit_parse.specs.Runs.{HasShortRuns};
 ghost use Rattle.mit_parse.specs.Words.{IsShortName, words_of};
 
+use crate::ahead::Ahead;
 use indexmap::IndexSet;
-use mit_lex::{Token, TokenKind, keyword, symbol};
+use mit_lex::{Token, TokenKind, keyword};
 use mit_rows::{Text, TextRefused};
 use mit_script::{Args, Name, Names};
 use std::alloc::{AllocError, Global};
@@ -156,30 +155,6 @@ pub(crate) fn variables(alloc: Global, tokens: &[Token]) -> Result<VariableNames
     Ok(VariableNames { numbered })
 }
 
-/// Whether a token ends a run.
-fn ends_run(kind: &TokenKind) -> bool
-    ensures { result ≡ ends_run kind.now }
-{
-    matches!(
-        kind,
-        TokenKind::Symbol(symbol::SEMICOLON | symbol::LEFT_BRACE | symbol::RIGHT_BRACE)
-    )
-}
-
-/// The tokens of the run at the front.
-fn run(tokens: &[Token]) -> &[Token]
-    ensures { kinds result.now ≡ reading.run_of (kinds tokens.now) }
-{
-    let mut size = 0;
-    for token in tokens {
-        if ends_run(&token.kind) {
-            break;
-        }
-        size += 1;
-    }
-    &tokens[..size]
-}
-
 /// How many bags an operator takes that begins with this keyword.
 fn bags_of_word(place: u8) -> usize
     ensures { result ≡ reading.bags_of_word place }
@@ -201,22 +176,16 @@ fn bags_of_word(place: u8) -> usize
 
 /// How many bags the operator at the front takes.
 #[tactic(auto, unfolding(mit_script::specs::Reading::bags_ahead))]
-fn bags_ahead(tokens: &[Token]) -> usize
-    ensures { result ≡ reading.bags_ahead (kinds tokens.now) }
+fn bags_ahead(tokens: &Ahead<'_>) -> usize
+    ensures { result ≡ reading.bags_ahead tokens.now }
 {
-    match tokens {
-        [
-            Token {
-                kind: TokenKind::Keyword(place),
-                ..
-            },
-            ..
-        ] => bags_of_word(*place),
+    match tokens.next() {
+        Some((TokenKind::Keyword(place), _)) => bags_of_word(*place),
         _ => 0,
     }
 }
 
-/// The words behind the first so many.
+/// The words after the first so many.
 fn past<'w, 'a>(count: usize, words: &'w [&'a str]) -> &'w [&'a str]
     ensures { result.now ≡ drop count words.now }
 {
@@ -231,14 +200,13 @@ fn first<'w, 'a>(count: usize, words: &'w [&'a str]) -> &'w [&'a str]
 }
 
 /// The names that the operator at the front captures.
-pub(crate) fn captured_ahead(
+pub(crate) fn captured_ahead<'a>(
     alloc: Global,
-    tokens: &[Token],
-) -> Result<CapturedNames<'_>, AllocError>
-    requires short { HasShortRuns (kinds tokens.now) }
-    ensures { IfOk result (λ names. names ≡ spec.captured_in (reading.bags_ahead (kinds tokens.now)) (reading.run_of (kinds tokens.now))) }
+    tokens: &Ahead<'a>,
+) -> Result<CapturedNames<'a>, AllocError>
+    ensures { IfOk result (λ names. names ≡ spec.captured_in (reading.bags_ahead tokens.now) (reading.run_of tokens.now)) }
 {
-    let words = names_in(alloc, run(tokens))?;
+    let words = names_in(alloc, tokens.run())?;
     let numbered = each_once(alloc, past(bags_ahead(tokens), &words))?;
     Ok(CapturedNames { numbered })
 }
@@ -257,16 +225,16 @@ fn add_numbers(
     Ok(())
 }
 
-/// The arguments of the operator at the front, which takes so many bags.
+/// The arguments of the operator of this run, which takes so many bags.
 pub(crate) fn arguments(
     alloc: Global,
     names: &VariableNames<'_>,
     bags: usize,
-    tokens: &[Token],
+    run: &[Token],
 ) -> Result<Args, AllocError>
-    ensures { IfOk result (λ args. args ≡ spec.arguments_in names.now bags (reading.run_of (kinds tokens.now))) }
+    ensures { IfOk result (λ args. args ≡ spec.arguments_in names.now bags (kinds run.now)) }
 {
-    let words = names_in(alloc, run(tokens))?;
+    let words = names_in(alloc, run)?;
     let captured = each_once(alloc, past(bags, &words))?;
     let mut numbers = Vec::new(alloc);
     add_numbers(&mut numbers, names, first(bags, &words))?;

@@ -1,18 +1,18 @@
 //! The operators of expressions.
 ghost use Rattle.std.specs.Prelude.{◌≡◌, IfOk, if◌then◌else◌, nat_le, Some, None, ◌^◌, neg_ℤ, pos};
-ghost use Rattle.mit_script.specs.Words as words;
+ghost use Rattle.mit_script.specs.Grammar as grammar;
 ghost use Rattle.mit_script.specs.Reading as spec;
 ghost use Rattle.mit_expr.specs.declared.expr.Expr.TheVariants as expr;
-ghost use Rattle.mit_script.specs.Grammar.{kinds};
 
+use crate::ahead::Ahead;
 use mit_expr::{BinOp, Call, Expr};
-use mit_lex::{Token, TokenKind, keyword, symbol};
+use mit_lex::{TokenKind, keyword, symbol};
 use sqlite_items::Boxed;
 use std::alloc::{AllocError, Global};
 
 /// How strongly an operator binds.
 fn rank_of(op: BinOp) -> u8
-    ensures { result ≡ words.rank_of op }
+    ensures { result ≡ grammar.rank_of op }
 {
     match op {
         BinOp::Or => 0,
@@ -70,32 +70,21 @@ pub(crate) fn call_of_word(place: u8) -> Option<Call>
 
 /// The operator at the front.
 #[tactic(auto, unfolding(mit_script::specs::Reading::operator_at))]
-fn operator_at(tokens: &[Token]) -> Option<BinOp>
-    ensures { result ≡ spec.operator_at (kinds tokens.now) }
+fn operator_at(tokens: &Ahead<'_>) -> Option<BinOp>
+    ensures { result ≡ spec.operator_at tokens.now }
 {
-    match tokens {
-        [
-            Token {
-                kind: TokenKind::Symbol(place),
-                ..
-            },
-            ..
-        ] => operator_of_symbol(*place),
-        [
-            Token {
-                kind: TokenKind::Keyword(place),
-                ..
-            },
-            ..
-        ] => operator_of_word(*place),
+    let (kind, _) = tokens.next()?;
+    match kind {
+        TokenKind::Symbol(place) => operator_of_symbol(*place),
+        TokenKind::Keyword(place) => operator_of_word(*place),
         _ => None,
     }
 }
 
 /// The operator at the front, where it has this rank.
 #[tactic(auto, unfolding(mit_script::specs::Reading::ranked_operator))]
-pub(crate) fn ranked_operator(rank: u8, tokens: &[Token]) -> Option<BinOp>
-    ensures { result ≡ spec.ranked_operator rank (kinds tokens.now) }
+pub(crate) fn ranked_operator(rank: u8, tokens: &Ahead<'_>) -> Option<BinOp>
+    ensures { result ≡ spec.ranked_operator rank tokens.now }
 {
     match operator_at(tokens) {
         Some(op) if rank_of(op) == rank => Some(op),

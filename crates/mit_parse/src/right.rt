@@ -1,126 +1,124 @@
-//! The forms of operators, each from the token behind its keyword on.
+//! The forms of operators, each from the token after its keyword on.
 ghost use Rattle.std.specs.Prelude.{◌≡◌};
 ghost use Rattle.mit_script.specs.Grammar.{is_name, number_in};
 ghost use Rattle.mit_script.specs.Reading as spec;
-ghost use Rattle.mit_script.specs.Grammar.{kinds};
 ghost use Rattle.mit_parse.specs.Gives.{Gives};
 
+use crate::ahead::Ahead;
 use crate::expr::any_expression;
 use crate::lists::{columns_at, exprs_at, types_at};
 use crate::names::CapturedNames;
 use crate::stop::Stop;
-use crate::tokens::{behind, column_at, expect_symbol, expect_word, name_at, sees_word, text_at};
+use crate::tokens::{
+    after_next, expect_symbol, expect_word, next_column, next_name, next_text, sees_word,
+};
 use mit_expr::Expr;
-use mit_lex::{Token, TokenKind, keyword, symbol};
+use mit_lex::{TokenKind, keyword, symbol};
 use mit_ops::{Agg, Flat, OpSpec};
 use std::alloc::Global;
 
 /// What a reduction makes of the rows of one key.
 #[tactic(auto, unfolding(mit_script::specs::Reading::agg_at))]
-fn agg_at(tokens: &[Token]) -> Result<(Agg, &[Token]), Stop<'_>>
-    ensures { Gives (λ x. (x.0, kinds x.1.now)) result (spec.agg_at (kinds tokens.now)) }
+fn agg_at(tokens: Ahead<'_>) -> Result<(Agg, Ahead<'_>), Stop<'_>>
+    ensures { Gives result (spec.agg_at tokens.entry) }
 {
-    let [
-        Token {
-            kind: TokenKind::Keyword(place),
-            ..
-        },
-        rest @ ..,
-    ] = tokens
-    else {
+    let Some((kind, rest)) = tokens.next() else {
+        return Err(Stop::Refused(tokens));
+    };
+    let TokenKind::Keyword(place) = kind else {
         return Err(Stop::Refused(tokens));
     };
     match *place {
         keyword::COUNT => Ok((Agg::Count, rest)),
         keyword::SUM => {
-            let (column, rest) = column_at(rest)?;
+            let (column, rest) = next_column(rest)?;
             Ok((Agg::Sum(column), rest))
         }
         keyword::MIN => {
-            let (column, rest) = column_at(rest)?;
+            let (column, rest) = next_column(rest)?;
             Ok((Agg::Min(column), rest))
         }
         keyword::MAX => {
-            let (column, rest) = column_at(rest)?;
+            let (column, rest) = next_column(rest)?;
             Ok((Agg::Max(column), rest))
         }
         _ => Err(Stop::Refused(tokens)),
     }
 }
 
-/// Behind `read`.
+/// After `read`.
 #[tactic(auto, unfolding(mit_script::specs::Reading::read_at))]
 fn read_at<'a>(
     alloc: Global,
     captured: &CapturedNames<'_>,
     most: usize,
-    tokens: &'a [Token],
-) -> Result<(OpSpec, &'a [Token]), Stop<'a>>
-    ensures { Gives (λ x. (x.0, kinds x.1.now)) result (spec.read_at (number_in captured.now) most (kinds tokens.now)) }
+    tokens: Ahead<'a>,
+) -> Result<(OpSpec, Ahead<'a>), Stop<'a>>
+    ensures { Gives result (spec.read_at (number_in captured.now) most tokens.entry) }
 {
     let (name, rest) = any_expression(alloc, captured, most, tokens)?;
     let (types, rest) = types_at(alloc, most, rest)?;
     Ok((OpSpec::Read { name, types }, rest))
 }
 
-/// Behind `map`.
+/// After `map`.
 #[tactic(auto, unfolding(mit_script::specs::Reading::map_at))]
 fn map_at<'a>(
     alloc: Global,
     captured: &CapturedNames<'_>,
     most: usize,
-    tokens: &'a [Token],
-) -> Result<(OpSpec, &'a [Token]), Stop<'a>>
-    ensures { Gives (λ x. (x.0, kinds x.1.now)) result (spec.map_at (number_in captured.now) most (kinds tokens.now)) }
+    tokens: Ahead<'a>,
+) -> Result<(OpSpec, Ahead<'a>), Stop<'a>>
+    ensures { Gives result (spec.map_at (number_in captured.now) most tokens.entry) }
 {
-    let (_, rest) = name_at(tokens)?;
+    let (_, rest) = next_name(tokens)?;
     let (exprs, rest) = exprs_at(alloc, captured, most, rest)?;
     Ok((OpSpec::Map { exprs }, rest))
 }
 
-/// Behind `filter`.
+/// After `filter`.
 #[tactic(auto, unfolding(mit_script::specs::Reading::filter_at))]
 fn filter_at<'a>(
     alloc: Global,
     captured: &CapturedNames<'_>,
     most: usize,
-    tokens: &'a [Token],
-) -> Result<(OpSpec, &'a [Token]), Stop<'a>>
-    ensures { Gives (λ x. (x.0, kinds x.1.now)) result (spec.filter_at (number_in captured.now) most (kinds tokens.now)) }
+    tokens: Ahead<'a>,
+) -> Result<(OpSpec, Ahead<'a>), Stop<'a>>
+    ensures { Gives result (spec.filter_at (number_in captured.now) most tokens.entry) }
 {
-    let (_, rest) = name_at(tokens)?;
+    let (_, rest) = next_name(tokens)?;
     let rest = expect_word(keyword::WHERE, rest)?;
     let (expr, rest) = any_expression(alloc, captured, most, rest)?;
     Ok((OpSpec::Filter { expr }, rest))
 }
 
-/// Behind `words`.
+/// After `words`.
 #[tactic(auto, unfolding(mit_script::specs::Reading::words_at))]
 fn words_at<'a>(
     alloc: Global,
     captured: &CapturedNames<'_>,
     most: usize,
-    tokens: &'a [Token],
-) -> Result<(OpSpec, &'a [Token]), Stop<'a>>
-    ensures { Gives (λ x. (x.0, kinds x.1.now)) result (spec.words_at (number_in captured.now) most (kinds tokens.now)) }
+    tokens: Ahead<'a>,
+) -> Result<(OpSpec, Ahead<'a>), Stop<'a>>
+    ensures { Gives result (spec.words_at (number_in captured.now) most tokens.entry) }
 {
     let (expr, rest) = any_expression(alloc, captured, most, tokens)?;
     let rest = expect_symbol(symbol::COMMA, rest)?;
-    let (separator, rest) = text_at(rest)?;
+    let (separator, rest) = next_text(rest)?;
     let separator = separator.copy(alloc)?;
     let flat = Flat::Words { expr, separator };
     Ok((OpSpec::FlatMap { flat }, rest))
 }
 
-/// Behind `range`.
+/// After `range`.
 #[tactic(auto, unfolding(mit_script::specs::Reading::range_at))]
 fn range_at<'a>(
     alloc: Global,
     captured: &CapturedNames<'_>,
     most: usize,
-    tokens: &'a [Token],
-) -> Result<(OpSpec, &'a [Token]), Stop<'a>>
-    ensures { Gives (λ x. (x.0, kinds x.1.now)) result (spec.range_at (number_in captured.now) most (kinds tokens.now)) }
+    tokens: Ahead<'a>,
+) -> Result<(OpSpec, Ahead<'a>), Stop<'a>>
+    ensures { Gives result (spec.range_at (number_in captured.now) most tokens.entry) }
 {
     let (from, rest) = any_expression(alloc, captured, most, tokens)?;
     let rest = expect_symbol(symbol::COMMA, rest)?;
@@ -129,112 +127,112 @@ fn range_at<'a>(
     Ok((OpSpec::FlatMap { flat }, rest))
 }
 
-/// Behind the bag of `flat`.
+/// After the bag of `flat`.
 #[tactic(auto, unfolding(mit_script::specs::Reading::flat_by))]
 fn flat_by<'a>(
     alloc: Global,
     captured: &CapturedNames<'_>,
     most: usize,
-    tokens: &'a [Token],
-) -> Result<(OpSpec, &'a [Token]), Stop<'a>>
-    ensures { Gives (λ x. (x.0, kinds x.1.now)) result (spec.flat_by (number_in captured.now) most (kinds tokens.now)) }
+    tokens: Ahead<'a>,
+) -> Result<(OpSpec, Ahead<'a>), Stop<'a>>
+    ensures { Gives result (spec.flat_by (number_in captured.now) most tokens.entry) }
 {
-    if sees_word(keyword::WORDS, tokens) {
-        return words_at(alloc, captured, most, behind(tokens));
+    if sees_word(keyword::WORDS, &tokens) {
+        return words_at(alloc, captured, most, after_next(tokens));
     }
-    if sees_word(keyword::RANGE, tokens) {
-        return range_at(alloc, captured, most, behind(tokens));
+    if sees_word(keyword::RANGE, &tokens) {
+        return range_at(alloc, captured, most, after_next(tokens));
     }
     Err(Stop::Refused(tokens))
 }
 
-/// Behind `flat`.
+/// After `flat`.
 #[tactic(auto, unfolding(mit_script::specs::Reading::flat_at))]
 fn flat_at<'a>(
     alloc: Global,
     captured: &CapturedNames<'_>,
     most: usize,
-    tokens: &'a [Token],
-) -> Result<(OpSpec, &'a [Token]), Stop<'a>>
-    ensures { Gives (λ x. (x.0, kinds x.1.now)) result (spec.flat_at (number_in captured.now) most (kinds tokens.now)) }
+    tokens: Ahead<'a>,
+) -> Result<(OpSpec, Ahead<'a>), Stop<'a>>
+    ensures { Gives result (spec.flat_at (number_in captured.now) most tokens.entry) }
 {
-    let (_, rest) = name_at(tokens)?;
+    let (_, rest) = next_name(tokens)?;
     flat_by(alloc, captured, most, rest)
 }
 
-/// Behind `join`.
+/// After `join`.
 #[tactic(auto, unfolding(mit_script::specs::Reading::join_at))]
-fn join_at(alloc: Global, most: usize, tokens: &[Token]) -> Result<(OpSpec, &[Token]), Stop<'_>>
-    ensures { Gives (λ x. (x.0, kinds x.1.now)) result (spec.join_at most (kinds tokens.now)) }
+fn join_at(alloc: Global, most: usize, tokens: Ahead<'_>) -> Result<(OpSpec, Ahead<'_>), Stop<'_>>
+    ensures { Gives result (spec.join_at most tokens.entry) }
 {
-    let (_, rest) = name_at(tokens)?;
+    let (_, rest) = next_name(tokens)?;
     let (left, rest) = columns_at(alloc, most, rest)?;
     let rest = expect_word(keyword::WITH, rest)?;
-    let (_, rest) = name_at(rest)?;
+    let (_, rest) = next_name(rest)?;
     let (right, rest) = columns_at(alloc, most, rest)?;
     Ok((OpSpec::Join { left, right }, rest))
 }
 
-/// Behind `reduce`.
+/// After `reduce`.
 #[tactic(auto, unfolding(mit_script::specs::Reading::reduce_at))]
-fn reduce_at(alloc: Global, most: usize, tokens: &[Token]) -> Result<(OpSpec, &[Token]), Stop<'_>>
-    ensures { Gives (λ x. (x.0, kinds x.1.now)) result (spec.reduce_at most (kinds tokens.now)) }
+fn reduce_at(alloc: Global, most: usize, tokens: Ahead<'_>) -> Result<(OpSpec, Ahead<'_>), Stop<'_>>
+    ensures { Gives result (spec.reduce_at most tokens.entry) }
 {
-    let (_, rest) = name_at(tokens)?;
+    let (_, rest) = next_name(tokens)?;
     let rest = expect_word(keyword::BY, rest)?;
     let (keys, rest) = columns_at(alloc, most, rest)?;
     let (agg, rest) = agg_at(rest)?;
     Ok((OpSpec::Reduce { keys, agg }, rest))
 }
 
-/// Behind `union`.
+/// After `union`.
 #[tactic(auto, unfolding(mit_script::specs::Reading::union_at))]
-fn union_at(tokens: &[Token]) -> Result<(OpSpec, &[Token]), Stop<'_>>
-    ensures { Gives (λ x. (x.0, kinds x.1.now)) result (spec.union_at (kinds tokens.now)) }
+fn union_at(tokens: Ahead<'_>) -> Result<(OpSpec, Ahead<'_>), Stop<'_>>
+    ensures { Gives result (spec.union_at tokens.entry) }
 {
-    let (_, rest) = name_at(tokens)?;
+    let (_, rest) = next_name(tokens)?;
     let rest = expect_symbol(symbol::COMMA, rest)?;
-    let (_, rest) = name_at(rest)?;
+    let (_, rest) = next_name(rest)?;
     Ok((OpSpec::Union, rest))
 }
 
 /// An operator of one bag and nothing else.
 #[tactic(auto, unfolding(mit_script::specs::Reading::of_bag_at))]
-fn of_bag_at(op: OpSpec, tokens: &[Token]) -> Result<(OpSpec, &[Token]), Stop<'_>>
-    ensures { Gives (λ x. (x.0, kinds x.1.now)) result (spec.of_bag_at op (kinds tokens.now)) }
+fn of_bag_at(op: OpSpec, tokens: Ahead<'_>) -> Result<(OpSpec, Ahead<'_>), Stop<'_>>
+    ensures { Gives result (spec.of_bag_at op tokens.entry) }
 {
-    let (_, rest) = name_at(tokens)?;
+    let (_, rest) = next_name(tokens)?;
     Ok((op, rest))
 }
 
-/// Behind `sum`.
+/// After `sum`.
 #[tactic(auto, unfolding(mit_script::specs::Reading::sum_at))]
-fn sum_at(tokens: &[Token]) -> Result<(OpSpec, &[Token]), Stop<'_>>
-    ensures { Gives (λ x. (x.0, kinds x.1.now)) result (spec.sum_at (kinds tokens.now)) }
+fn sum_at(tokens: Ahead<'_>) -> Result<(OpSpec, Ahead<'_>), Stop<'_>>
+    ensures { Gives result (spec.sum_at tokens.entry) }
 {
-    let (_, rest) = name_at(tokens)?;
-    let (column, rest) = column_at(rest)?;
+    let (_, rest) = next_name(tokens)?;
+    let (column, rest) = next_column(rest)?;
     Ok((OpSpec::Sum { column }, rest))
 }
 
-/// Behind `row`.
+/// After `row`.
 #[tactic(auto, unfolding(mit_script::specs::Reading::row_at))]
 fn row_at<'a>(
     alloc: Global,
     captured: &CapturedNames<'_>,
     most: usize,
-    tokens: &'a [Token],
-) -> Result<(OpSpec, &'a [Token]), Stop<'a>>
-    ensures { Gives (λ x. (x.0, kinds x.1.now)) result (spec.row_at (number_in captured.now) most (kinds tokens.now)) }
+    tokens: Ahead<'a>,
+) -> Result<(OpSpec, Ahead<'a>), Stop<'a>>
+    ensures { Gives result (spec.row_at (number_in captured.now) most tokens.entry) }
 {
     let (exprs, rest) = exprs_at(alloc, captured, most, tokens)?;
     Ok((OpSpec::MakeRow { exprs }, rest))
 }
 
-/// Behind `empty`.
+/// After `empty`.
 #[tactic(auto, unfolding(mit_script::specs::Reading::empty_at))]
-fn empty_at(alloc: Global, most: usize, tokens: &[Token]) -> Result<(OpSpec, &[Token]), Stop<'_>>
-    ensures { Gives (λ x. (x.0, kinds x.1.now)) result (spec.empty_at most (kinds tokens.now)) }
+fn empty_at(alloc: Global, most: usize, tokens: Ahead<'_>) -> Result<(OpSpec, Ahead<'_>), Stop<'_>>
+    ensures { Gives result (spec.empty_at most tokens.entry) }
 {
     let (types, rest) = types_at(alloc, most, tokens)?;
     Ok((OpSpec::Empty { types }, rest))
@@ -253,9 +251,9 @@ fn scalar_at<'a>(
     alloc: Global,
     captured: &CapturedNames<'_>,
     most: usize,
-    tokens: &'a [Token],
-) -> Result<(OpSpec, &'a [Token]), Stop<'a>>
-    ensures { Gives (λ x. (x.0, kinds x.1.now)) result (spec.scalar_at (number_in captured.now) most (kinds tokens.now)) }
+    tokens: Ahead<'a>,
+) -> Result<(OpSpec, Ahead<'a>), Stop<'a>>
+    ensures { Gives result (spec.scalar_at (number_in captured.now) most tokens.entry) }
 {
     let (expr, rest) = any_expression(alloc, captured, most, tokens)?;
     if is_name(&expr) {
@@ -270,11 +268,11 @@ fn right_by<'a>(
     captured: &CapturedNames<'_>,
     most: usize,
     place: u8,
-    tokens: &'a [Token],
-    rest: &'a [Token],
-) -> Result<(OpSpec, &'a [Token]), Stop<'a>>
-    ensures { Gives (λ x. (x.0, kinds x.1.now)) result
-        (spec.right_by (number_in captured.now) most place (kinds tokens.now) (kinds rest.now)) }
+    tokens: Ahead<'a>,
+    rest: Ahead<'a>,
+) -> Result<(OpSpec, Ahead<'a>), Stop<'a>>
+    ensures { Gives result
+        (spec.right_by (number_in captured.now) most place tokens.entry rest.entry) }
 {
     match place {
         keyword::READ => read_at(alloc, captured, most, rest),
@@ -300,18 +298,14 @@ pub(crate) fn right_at<'a>(
     alloc: Global,
     captured: &CapturedNames<'_>,
     most: usize,
-    tokens: &'a [Token],
-) -> Result<(OpSpec, &'a [Token]), Stop<'a>>
-    ensures { Gives (λ x. (x.0, kinds x.1.now)) result (spec.right_at (number_in captured.now) most (kinds tokens.now)) }
+    tokens: Ahead<'a>,
+) -> Result<(OpSpec, Ahead<'a>), Stop<'a>>
+    ensures { Gives result (spec.right_at (number_in captured.now) most tokens.entry) }
 {
-    match tokens {
-        [
-            Token {
-                kind: TokenKind::Keyword(place),
-                ..
-            },
-            rest @ ..,
-        ] => { right_by(alloc, captured, most, *place, tokens, rest) }
+    match tokens.next() {
+        Some((TokenKind::Keyword(place), rest)) => {
+            right_by(alloc, captured, most, *place, tokens, rest)
+        }
         _ => scalar_at(alloc, captured, most, tokens),
     }
 }
@@ -322,12 +316,12 @@ pub(crate) fn write_at<'a>(
     alloc: Global,
     captured: &CapturedNames<'_>,
     most: usize,
-    tokens: &'a [Token],
-) -> Result<(OpSpec, &'a [Token]), Stop<'a>>
-    ensures { Gives (λ x. (x.0, kinds x.1.now)) result (spec.write_at (number_in captured.now) most (kinds tokens.now)) }
+    tokens: Ahead<'a>,
+) -> Result<(OpSpec, Ahead<'a>), Stop<'a>>
+    ensures { Gives result (spec.write_at (number_in captured.now) most tokens.entry) }
 {
     let rest = expect_word(keyword::WRITE, tokens)?;
-    let (_, rest) = name_at(rest)?;
+    let (_, rest) = next_name(rest)?;
     let rest = expect_word(keyword::TO, rest)?;
     let (name, rest) = any_expression(alloc, captured, most, rest)?;
     Ok((OpSpec::Write { name }, rest))
@@ -339,9 +333,9 @@ pub(crate) fn condition_at<'a>(
     alloc: Global,
     captured: &CapturedNames<'_>,
     most: usize,
-    tokens: &'a [Token],
-) -> Result<(OpSpec, &'a [Token]), Stop<'a>>
-    ensures { Gives (λ x. (x.0, kinds x.1.now)) result (spec.condition_at (number_in captured.now) most (kinds tokens.now)) }
+    tokens: Ahead<'a>,
+) -> Result<(OpSpec, Ahead<'a>), Stop<'a>>
+    ensures { Gives result (spec.condition_at (number_in captured.now) most tokens.entry) }
 {
     let (expr, rest) = any_expression(alloc, captured, most, tokens)?;
     Ok((OpSpec::Scalar { expr }, rest))

@@ -1,10 +1,11 @@
 //! From a text to its script.
-ghost use Rattle.std.specs.Prelude.{◌≡◌, ◌≤◌, All, Ok, IfOk, IfErr, length};
+ghost use Rattle.std.specs.Prelude.{◌≡◌, ◌≤◌, ◌-◌, All, Ok, IfOk, IfErr, drop, length};
 ghost use Rattle.mit_lex.specs.Tokens.{tokens_of};
 ghost use Rattle.mit_lex.specs.Valid.{IsToken};
 ghost use Rattle.mit_script.specs.Grammar.{IsSpelled};
+ghost use Rattle.mit_script.specs.PrintsBack.{CanBeSpelled};
 ghost use Rattle.mit_script.specs.Trees.{IsFormed, IsNumbered};
-ghost use Rattle.mit_parse.specs.Places.{TellsPlace, refusal_place};
+ghost use Rattle.mit_parse.specs.Places.{TellsRefusal, start_of};
 
 use crate::stmts::read_script;
 use crate::stop::{ParseStop, Stop};
@@ -13,15 +14,21 @@ use mit_script::Script;
 use mit_script::laws::{formed_law, reading_law};
 use std::alloc::Global;
 
-/// Where the text is refused, where so many tokens are left from the refused one on: at the start of that, or at the end
-/// of the text.
-fn place_of(text: &[u8], tokens: &[Token], left: usize) -> u32
-    requires { length text.now ≤ 1048576 }
-    ensures { result ≡ refusal_place text.now tokens.now left }
+/// The last so many tokens.
+fn last(count: usize, tokens: &[Token]) -> &[Token]
+    ensures { result.now ≡ drop (length tokens.now - count) tokens.now }
 {
-    match tokens.get(tokens.len().saturating_sub(left)) {
-        Some(token) => token.start,
-        None => text.len() as u32,
+    &tokens[tokens.len().saturating_sub(count)..]
+}
+
+/// Where the first of the tokens that are left starts, and the text's end where none is left.
+fn place_of(text: &[u8], left: &[Token]) -> u32
+    requires { length text.now ≤ 1048576 }
+    ensures { result ≡ start_of text.now left.now }
+{
+    match left {
+        [token, ..] => token.start,
+        [] => text.len() as u32,
     }
 }
 
@@ -34,7 +41,8 @@ fn script_of(alloc: Global, text: &[u8], tokens: &[Token]) -> Result<Script, Par
     ensures spelled { IfOk result (λ script. IsSpelled text.now script) }
     ensures formed { IfOk result IsFormed }
     ensures numbered { IfOk result IsNumbered }
-    ensures fault { IfErr result (λ stop. TellsPlace text.now stop) }
+    ensures printable { IfOk result CanBeSpelled }
+    ensures fault { IfErr result (λ stop. TellsRefusal text.now stop) }
 {
     reading_law();
     formed_law();
@@ -42,7 +50,7 @@ fn script_of(alloc: Global, text: &[u8], tokens: &[Token]) -> Result<Script, Par
         Ok(script) => Ok(script),
         Err(Stop::NoMemory) => Err(ParseStop::NoMemory),
         Err(Stop::Refused(rest)) => Err(ParseStop::Fault {
-            place: place_of(text, tokens, rest.len()),
+            place: place_of(text, last(rest.len(), tokens)),
         }),
     }
 }
@@ -53,7 +61,8 @@ pub fn parse(alloc: Global, text: &[u8]) -> Result<Script, ParseStop>
     ensures spelled { IfOk result (λ script. IsSpelled text.now script) }
     ensures formed { IfOk result IsFormed }
     ensures numbered { IfOk result IsNumbered }
-    ensures fault { IfErr result (λ stop. TellsPlace text.now stop) }
+    ensures printable { IfOk result CanBeSpelled }
+    ensures fault { IfErr result (λ stop. TellsRefusal text.now stop) }
 {
     match tokens(alloc, text) {
         Ok(tokens) => script_of(alloc, text, &tokens),

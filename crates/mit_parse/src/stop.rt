@@ -2,7 +2,7 @@
 ghost use Rattle.std.specs.Prelude.{◌≡◌};
 ghost use Rattle.mit_parse.specs.declared.stop.Stop.TheVariants.{NoMemory as Spent};
 
-use mit_lex::Token;
+use crate::ahead::Ahead;
 use std::alloc::{AllocError, AllocFailed};
 use thiserror::Error;
 
@@ -18,10 +18,10 @@ pub enum ParseStop {
 }
 
 /// Why tokens were read no further.
-#[derive(Clone, Copy)]
+#[derive(Drop)]
 pub(crate) enum Stop<'a> {
     /// The first of these tokens is refused, or their end.
-    Refused(&'a [Token]),
+    Refused(Ahead<'a>),
     /// Memory ran out.
     NoMemory,
 }

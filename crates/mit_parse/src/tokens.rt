@@ -1,88 +1,79 @@
-//! What stands at the front of tokens.
-ghost use Rattle.std.specs.Prelude.{◌≡◌, option_map};
+//! What the next token is.
+ghost use Rattle.std.specs.Prelude.{◌≡◌};
 ghost use Rattle.mit_script.specs.Reading as spec;
-ghost use Rattle.mit_script.specs.Grammar.{kinds};
-ghost use Rattle.mit_parse.specs.Gives.{Gives};
+ghost use Rattle.mit_parse.specs.Gives.{Gives, GivesAs};
 
+use crate::ahead::Ahead;
 use crate::stop::Stop;
-use mit_lex::{Token, TokenKind, keyword};
+use mit_lex::{TokenKind, keyword};
 use mit_rows::{ColType, Text};
 
-/// The tokens behind this symbol.
+/// The tokens after this symbol.
 #[tactic(auto, unfolding(mit_script::specs::Reading::expect_symbol))]
-pub(crate) fn expect_symbol(wanted: u8, tokens: &[Token]) -> Result<&[Token], Stop<'_>>
-    ensures { Gives (λ rest. (tt, kinds rest.now)) result (spec.expect_symbol wanted (kinds tokens.now)) }
+pub(crate) fn expect_symbol(wanted: u8, tokens: Ahead<'_>) -> Result<Ahead<'_>, Stop<'_>>
+    ensures { GivesAs (λ rest. (tt, rest)) result (spec.expect_symbol wanted tokens.entry) }
 {
-    let [token, rest @ ..] = tokens else {
+    let Some((kind, rest)) = tokens.next() else {
         return Err(Stop::Refused(tokens));
     };
-    match token.kind {
-        TokenKind::Symbol(place) if place == wanted => Ok(rest),
+    match kind {
+        TokenKind::Symbol(place) if *place == wanted => Ok(rest),
         _ => Err(Stop::Refused(tokens)),
     }
 }
 
-/// The tokens behind this keyword.
+/// The tokens after this keyword.
 #[tactic(auto, unfolding(mit_script::specs::Reading::expect_word))]
-pub(crate) fn expect_word(wanted: u8, tokens: &[Token]) -> Result<&[Token], Stop<'_>>
-    ensures { Gives (λ rest. (tt, kinds rest.now)) result (spec.expect_word wanted (kinds tokens.now)) }
+pub(crate) fn expect_word(wanted: u8, tokens: Ahead<'_>) -> Result<Ahead<'_>, Stop<'_>>
+    ensures { GivesAs (λ rest. (tt, rest)) result (spec.expect_word wanted tokens.entry) }
 {
-    let [token, rest @ ..] = tokens else {
+    let Some((kind, rest)) = tokens.next() else {
         return Err(Stop::Refused(tokens));
     };
-    match token.kind {
-        TokenKind::Keyword(place) if place == wanted => Ok(rest),
+    match kind {
+        TokenKind::Keyword(place) if *place == wanted => Ok(rest),
         _ => Err(Stop::Refused(tokens)),
     }
 }
 
-/// The name at the front, and the tokens behind it.
+/// The next name, and the tokens after it.
 #[tactic(auto, unfolding(mit_script::specs::Reading::name_at))]
-pub(crate) fn name_at(tokens: &[Token]) -> Result<(&str, &[Token]), Stop<'_>>
-    ensures { Gives (λ x. (x.0.now, kinds x.1.now)) result (spec.name_at (kinds tokens.now)) }
+pub(crate) fn next_name(tokens: Ahead<'_>) -> Result<(&Text, Ahead<'_>), Stop<'_>>
+    ensures { GivesAs (λ x. (x.0.now, x.1)) result (spec.name_at tokens.entry) }
 {
-    match tokens {
-        [
-            Token {
-                kind: TokenKind::Name(name),
-                ..
-            },
-            rest @ ..,
-        ] => Ok((name.as_str(), rest)),
+    let Some((kind, rest)) = tokens.next() else {
+        return Err(Stop::Refused(tokens));
+    };
+    match kind {
+        TokenKind::Name(name) => Ok((name, rest)),
         _ => Err(Stop::Refused(tokens)),
     }
 }
 
-/// The column at the front, and the tokens behind it.
+/// The next column, and the tokens after it.
 #[tactic(auto, unfolding(mit_script::specs::Reading::column_at))]
-pub(crate) fn column_at(tokens: &[Token]) -> Result<(u8, &[Token]), Stop<'_>>
-    ensures { Gives (λ x. (x.0, kinds x.1.now)) result (spec.column_at (kinds tokens.now)) }
+pub(crate) fn next_column(tokens: Ahead<'_>) -> Result<(u8, Ahead<'_>), Stop<'_>>
+    ensures { Gives result (spec.column_at tokens.entry) }
 {
-    match tokens {
-        [
-            Token {
-                kind: TokenKind::Column(column),
-                ..
-            },
-            rest @ ..,
-        ] => Ok((*column, rest)),
+    let Some((kind, rest)) = tokens.next() else {
+        return Err(Stop::Refused(tokens));
+    };
+    match kind {
+        TokenKind::Column(column) => Ok((*column, rest)),
         _ => Err(Stop::Refused(tokens)),
     }
 }
 
-/// The text at the front, and the tokens behind it.
+/// The next text, and the tokens after it.
 #[tactic(auto, unfolding(mit_script::specs::Reading::text_at))]
-pub(crate) fn text_at(tokens: &[Token]) -> Result<(&Text, &[Token]), Stop<'_>>
-    ensures { Gives (λ x. (x.0.now, kinds x.1.now)) result (spec.text_at (kinds tokens.now)) }
+pub(crate) fn next_text(tokens: Ahead<'_>) -> Result<(&Text, Ahead<'_>), Stop<'_>>
+    ensures { GivesAs (λ x. (x.0.now, x.1)) result (spec.text_at tokens.entry) }
 {
-    match tokens {
-        [
-            Token {
-                kind: TokenKind::Text(text),
-                ..
-            },
-            rest @ ..,
-        ] => Ok((text, rest)),
+    let Some((kind, rest)) = tokens.next() else {
+        return Err(Stop::Refused(tokens));
+    };
+    match kind {
+        TokenKind::Text(text) => Ok((text, rest)),
         _ => Err(Stop::Refused(tokens)),
     }
 }
@@ -99,19 +90,15 @@ fn type_of_word(place: u8) -> Option<ColType>
     }
 }
 
-/// The type at the front, and the tokens behind it.
+/// The next type, and the tokens after it.
 #[tactic(auto, unfolding(mit_script::specs::Reading::type_at))]
-pub(crate) fn type_at(tokens: &[Token]) -> Result<(ColType, &[Token]), Stop<'_>>
-    ensures { Gives (λ x. (x.0, kinds x.1.now)) result (spec.type_at (kinds tokens.now)) }
+pub(crate) fn next_type(tokens: Ahead<'_>) -> Result<(ColType, Ahead<'_>), Stop<'_>>
+    ensures { Gives result (spec.type_at tokens.entry) }
 {
-    let [
-        Token {
-            kind: TokenKind::Keyword(place),
-            ..
-        },
-        rest @ ..,
-    ] = tokens
-    else {
+    let Some((kind, rest)) = tokens.next() else {
+        return Err(Stop::Refused(tokens));
+    };
+    let TokenKind::Keyword(place) = kind else {
         return Err(Stop::Refused(tokens));
     };
     match type_of_word(*place) {
@@ -120,46 +107,40 @@ pub(crate) fn type_at(tokens: &[Token]) -> Result<(ColType, &[Token]), Stop<'_>>
     }
 }
 
-/// Whether this symbol is at the front.
+/// Whether the next token is this symbol.
 #[tactic(auto, unfolding(mit_script::specs::Reading::sees_symbol))]
-pub(crate) fn sees_symbol(wanted: u8, tokens: &[Token]) -> bool
-    ensures { result ≡ spec.sees_symbol wanted (kinds tokens.now) }
+pub(crate) fn sees_symbol(wanted: u8, tokens: &Ahead<'_>) -> bool
+    ensures { result ≡ spec.sees_symbol wanted tokens.now }
 {
-    match tokens {
-        [
-            Token {
-                kind: TokenKind::Symbol(place),
-                ..
-            },
-            ..
-        ] => *place == wanted,
+    let Some((kind, _)) = tokens.next() else {
+        return false;
+    };
+    match kind {
+        TokenKind::Symbol(place) => *place == wanted,
         _ => false,
     }
 }
 
-/// Whether this keyword is at the front.
+/// Whether the next token is this keyword.
 #[tactic(auto, unfolding(mit_script::specs::Reading::sees_word))]
-pub(crate) fn sees_word(wanted: u8, tokens: &[Token]) -> bool
-    ensures { result ≡ spec.sees_word wanted (kinds tokens.now) }
+pub(crate) fn sees_word(wanted: u8, tokens: &Ahead<'_>) -> bool
+    ensures { result ≡ spec.sees_word wanted tokens.now }
 {
-    match tokens {
-        [
-            Token {
-                kind: TokenKind::Keyword(place),
-                ..
-            },
-            ..
-        ] => *place == wanted,
+    let Some((kind, _)) = tokens.next() else {
+        return false;
+    };
+    match kind {
+        TokenKind::Keyword(place) => *place == wanted,
         _ => false,
     }
 }
 
-/// The tokens behind the one at the front.
-pub(crate) fn behind(tokens: &[Token]) -> &[Token]
-    ensures { kinds result.now ≡ spec.behind (kinds tokens.now) }
+/// The tokens after the next one.
+pub(crate) fn after_next(tokens: Ahead<'_>) -> Ahead<'_>
+    ensures { result ≡ spec.behind tokens.entry }
 {
-    match tokens {
-        [] => tokens,
-        [_, rest @ ..] => rest,
+    match tokens.next() {
+        None => tokens,
+        Some((_, rest)) => rest,
     }
 }

@@ -1,7 +1,6 @@
 use Rattle.std.proofs.Common.{◌≡◌, ◌+◌, ◌*◌, ◌-◌}
 use Rattle.mit_script.specs.Grammar.{number_in}
 use Rattle.mit_script.specs.Reading.{chain_from, expression, ranked}
-use Rattle.mit_script.specs.Grammar.{kinds}
 use Rattle.mit_parse.proofs.expr.+expression.Given as goal
 
 abbrev pub decreases-expression : goal.decreases-expression
@@ -37,4 +36,4 @@ decreases-chain l = 64 * l.depth + 32 + 3 * l.below + 2
 abbrev pub invariant-chain_from-loop : goal.invariant-chain_from-loop
 invariant-chain_from-loop l =
     let operand = ranked (expression (number_in l.captured) l.depth) (number_in l.captured) l.depth l.below in
-    chain_from operand (6 - l.below) (l.depth - l.counter) l.left (kinds l.rest) ≡ chain_from operand (6 - l.below) l.depth l.initial.left (kinds l.tokens)
+    chain_from operand (6 - l.below) (l.depth - l.counter) l.left l.rest ≡ chain_from operand (6 - l.below) l.depth l.initial.left l.fn.tokens

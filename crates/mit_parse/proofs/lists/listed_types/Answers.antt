@@ -1,22 +1,21 @@
 use Rattle.std.proofs.Common.{◌∙◌, sym}
 use Rattle.std.proofs.lemmas.Result.{err_from_is_err_and}
 use Rattle.mit_script.specs.Reading.{type_at, listed}
-use Rattle.mit_script.specs.Grammar.{kinds}
 use Rattle.mit_parse.proofs.Loops.{listed_ends, listed_goes_on, listed_runs_out, listed_stops}
 use Rattle.mit_parse.proofs.lists.listed_types.Goals as goal
 
 pub returns-in_err-item : goal.returns-in_err-item
 returns-in_err-item c =
     let p = err_from_is_err_and c.from_residual.result c.from_residual.ensures.1 in
-    rw (p.1, p.2) (listed_stops c.in_err-item.field-0.0 type_at c.loop.items.items c.args.turns c.loop.counter (kinds c.loop.rest.now) (listed type_at c.args.turns (kinds c.args.tokens.now)) c.loop-test.true c.in_err-item.ensures c.loop.invariant)
+    rw (p.1, p.2) (listed_stops c.in_err-item.field-0.0 type_at c.loop.items.items c.args.turns c.loop.counter c.loop.rest (listed type_at c.args.turns c.args.tokens) c.loop-test.true c.in_err-item.ensures c.loop.invariant)
 
 pub returns-then-not-sees_symbol : goal.returns-then-not-sees_symbol
 returns-then-not-sees_symbol c =
-    rw c.in_ok-push.ensures.items (listed_ends type_at c.loop.items.items c.args.turns c.loop.counter (kinds c.loop.rest.now) c.in_ok-item.item (kinds c.in_ok-item.after.now) (listed type_at c.args.turns (kinds c.args.tokens.now)) c.loop-test.true c.in_ok-item.ensures (sym c.sees_symbol.ensures ∙ c.if-not-sees_symbol.true) c.loop.invariant)
+    rw c.in_ok-push.ensures.items (listed_ends type_at c.loop.items.items c.args.turns c.loop.counter c.loop.rest c.in_ok-item.item c.in_ok-item.after (listed type_at c.args.turns c.args.tokens) c.loop-test.true c.in_ok-item.ensures (sym c.sees_symbol.ensures ∙ c.if-not-sees_symbol.true) c.loop.invariant)
 
 pub loop-preserved : goal.loop-preserved
 loop-preserved c =
-    rw (c.in_ok-push.ensures.items, c.behind-rest.ensures) (listed_goes_on type_at c.loop.items.items c.args.turns c.loop.counter (kinds c.loop.rest.now) c.in_ok-item.item (kinds c.in_ok-item.after.now) (listed type_at c.args.turns (kinds c.args.tokens.now)) c.loop-test.true c.in_ok-item.ensures (sym c.sees_symbol.ensures ∙ c.if-not-sees_symbol.false) c.loop.invariant)
+    rw (c.in_ok-push.ensures.items, c.after_next-rest.ensures) (listed_goes_on type_at c.loop.items.items c.args.turns c.loop.counter c.loop.rest c.in_ok-item.item c.in_ok-item.after (listed type_at c.args.turns c.args.tokens) c.loop-test.true c.in_ok-item.ensures (sym c.sees_symbol.ensures ∙ c.if-not-sees_symbol.false) c.loop.invariant)
 
 pub returns : goal.returns
-returns c = listed_runs_out type_at c.loop.items.items c.args.turns c.loop.counter (kinds c.loop.rest.now) (listed type_at c.args.turns (kinds c.args.tokens.now)) c.loop-test.false c.loop.invariant
+returns c = listed_runs_out type_at c.loop.items.items c.args.turns c.loop.counter c.loop.rest (listed type_at c.args.turns c.args.tokens) c.loop-test.false c.loop.invariant

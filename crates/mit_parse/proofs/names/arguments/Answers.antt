@@ -1,6 +1,5 @@
 use Rattle.std.proofs.Common.{◌≡◌, ◌∙◌, ◌++◌, ap, drop, take, map, List, ℕ}
 use Rattle.mit_script.specs.Grammar.{each_once, names_in, number_in}
-use Rattle.mit_script.specs.Reading.{run_of}
 use Rattle.mit_script.specs.Grammar.{kinds}
 use Rattle.mit_parse.specs.Words.{words_of}
 use Rattle.mit_parse.proofs.Numbering.{first-words, numbers-joined, past-words}
@@ -8,9 +7,9 @@ use Rattle.mit_parse.proofs.names.arguments.Goals as goal
 
 pub returns : goal.returns
 returns c =
-    let all = names_in (run_of (kinds c.args.tokens.now)) in
+    let all = names_in (kinds c.args.run.now) in
     let bags = c.args.bags in
-    let words = c.in_ok-words.ensures ∙ ap names_in c.run.ensures in
+    let words = c.in_ok-words.ensures in
     let past = past-words bags c.in_ok-words.words.items c.past.result.now all (c.past.ensures ∙ ap (λ list. drop bags list) c.deref.ensures.value) words in
     let first = first-words bags c.in_ok-words.words.items c.first.result.now all (c.first.ensures ∙ ap (λ list. take bags list) c.deref-2.ensures.value) words in
     let captured : words_of c.as_slice.result.now ≡ each_once (drop bags all) = ap words_of c.as_slice.ensures.keys ∙ c.captured.view_is ∙ c.in_ok-captured.ensures ∙ ap each_once past in

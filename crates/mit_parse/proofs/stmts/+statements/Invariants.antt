@@ -1,7 +1,5 @@
 use Rattle.std.proofs.Common.{◌≡◌, ◌+◌, ◌*◌, ◌-◌}
 use Rattle.mit_script.specs.Reading.{statements, with_front}
-use Rattle.mit_script.specs.Grammar.{kinds}
-use Rattle.mit_parse.specs.Runs.{HasShortRuns}
 use Rattle.mit_parse.proofs.stmts.+statements.Given as goal
 
 abbrev pub decreases-statements : goal.decreases-statements
@@ -23,7 +21,5 @@ abbrev pub decreases-block_at : goal.decreases-block_at
 decreases-block_at l = 8 * l.left + 2
 
 abbrev pub invariant-statements-loop-turn : goal.invariant-statements-loop-turn
-invariant-statements-loop-turn l = record {
-  so_far : with_front l.found.items (statements l.names l.most (l.left - l.turn) (kinds l.rest)) ≡ statements l.names l.most l.left (kinds l.tokens);
-  short : HasShortRuns (kinds l.rest);
-}
+invariant-statements-loop-turn l =
+    with_front l.found.items (statements l.names l.most (l.left - l.turn) l.rest) ≡ statements l.names l.most l.left l.fn.tokens

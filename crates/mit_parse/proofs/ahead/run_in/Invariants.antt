@@ -1,7 +1,7 @@
 use Rattle.std.proofs.Common.{◌≡◌, ◌++◌, take, drop}
 use Rattle.mit_script.specs.Reading.{run_of}
 use Rattle.mit_script.specs.Grammar.{kinds}
-use Rattle.mit_parse.proofs.names.run.Given as goal
+use Rattle.mit_parse.proofs.ahead.run_in.Given as goal
 
 -- the tokens so far are of the run
 abbrev pub invariant-loop-token : goal.invariant-loop-token

@@ -1,7 +1,7 @@
 use Rattle.std.proofs.Common.{◌≡◌, ◌∙◌, ◌+◌, ap, sym}
 use Rattle.mit_lex.specs.Limits.{ends_run}
 use Rattle.mit_parse.proofs.Numbering.{run-more}
-use Rattle.mit_parse.proofs.names.run.Goals as goal
+use Rattle.mit_parse.proofs.ahead.run_in.Goals as goal
 
 pub loop-token-preserved : goal.loop-token-preserved
 loop-token-preserved c =
