@@ -1,8 +1,8 @@
 -- Where a statement and those inside it have their bags, each of them has.
-use Rattle.std.proofs.Common.{◌≡◌, ◌≤◌, ℕ, List, [], ◌∷◌, ◌++◌, length, All, refl, sym, subst, arith}
+use Rattle.std.proofs.Common.{◌≡◌, ◌≤◌, ℕ, List, [], ◌∷◌, ◌++◌, length, All, refl, subst, arith}
 use Rattle.std.specs.Prelude.{flat_map}
 use Rattle.std.proofs.lemmas.List.{drop_at, take_at}
-use Rattle.std.proofs.lemmas.List.Elements.{All-append, All-cons, All-drop, All-head, All-nil, All-tail, All-take, All-weaker}
+use Rattle.std.proofs.lemmas.List.Elements.{All-cons, All-drop, All-head, All-nil, All-tail, All-take, All-weaker}
 use Rattle.mit_ops.specs.Kinds.{bag_inputs_of}
 use Rattle.mit_ops.specs.declared.kinds.OpSpec.{OpSpec}
 use Rattle.mit_script.specs.Trees.{Head, IsFormed, IsFormedHead, assigns, decides, heads_in, writes}
@@ -64,22 +64,3 @@ while_bags {op = op} {args = args} body is have =
       All-head HasBags (decides op args) (flat_map heads_in body) all,
       block_bags body (All-tail HasBags (decides op args) (flat_map heads_in body) all),
     )
-
--- ---- the other way round
-
--- where the statements of a block have their bags, all its heads have
-all_bags : (block : List Stmt) → All HaveBags block → All HasBags (flat_map heads_in block)
-all_bags [] have = All-nil HasBags
-all_bags (first ∷ more) have =
-    All-append HasBags (heads_in first) (flat_map heads_in more) (All-head HaveBags first more have) (all_bags more (All-tail HaveBags first more have))
-
-pub bags_if : (op : OpSpec) (args : List ℕ) (on_true on_false : List Stmt) → bag_inputs_of op ≤ length args → All HaveBags on_true → All HaveBags on_false
-    → HaveBags (stmt.If op args on_true on_false)
-bags_if op args on_true on_false enough one other =
-    subst (All HasBags) (sym (heads_in-If op args on_true on_false))
-    (All-cons HasBags (decides op args) (flat_map heads_in on_true ++ flat_map heads_in on_false) enough
-    (All-append HasBags (flat_map heads_in on_true) (flat_map heads_in on_false) (all_bags on_true one) (all_bags on_false other)))
-
-pub bags_while : (op : OpSpec) (args : List ℕ) (body : List Stmt) → bag_inputs_of op ≤ length args → All HaveBags body → HaveBags (stmt.While op args body)
-bags_while op args body enough inside =
-    subst (All HasBags) (sym (heads_in-While op args body)) (All-cons HasBags (decides op args) (flat_map heads_in body) enough (all_bags body inside))

@@ -10,9 +10,8 @@ use Rattle.std.proofs.Math.Seq.{drop-append_seam, take-append_seam}
 use Rattle.std.proofs.lemmas.Slice.Zip.{get_or-zip, length-zip}
 use Rattle.std.proofs.lemmas.Grind.{get_or-set_at}
 use Rattle.std.proofs.lemmas.Bool.Decides.{nat_tests}
-use Rattle.mit_script.specs.Accepted.{Check, Known, and_then, both, branched, in_order, rejoined, with_assigned}
-use Rattle.mit_check.specs.Tells.{known_in}
-use Rattle.mit_check.specs.Trails.{Extends, are_fresh, is_in, marked, newly}
+use Rattle.mit_script.specs.Accepted.{Check, Known, and_then, both, branched, in_order, is_assigned, rejoined, with_assigned}
+use Rattle.mit_check.specs.Trails.{Extends, are_fresh, known_in, marked, newly}
 use Rattle.mit_check.specs.declared.tables.Tables.{Tables}
 
 -- ---- what stands at a place
@@ -42,8 +41,8 @@ get-marked is (v ∷ vs) xs i lt =
     get-marked is vs (set xs v is) i (omega (arith, size, lt))
     ∙ (ap (λ x. cond (among vs i) is x) (get-set xs v i is (eqb i v) refl lt) ∙ either (among vs i) (eqb i v) is (get_or xs i false))
 
-is_in-get : (xs : List Bool) (i : ℕ) → is_in xs i ≡ get_or xs i false
-is_in-get xs i = unwrap_or-slice_get xs i false
+is_assigned-get : (xs : List Bool) (i : ℕ) → is_assigned xs i ≡ get_or xs i false
+is_assigned-get xs i = unwrap_or-slice_get xs i false
 
 -- ---- what is taken back
 
@@ -51,14 +50,14 @@ not_true : (b : Bool) → not b ≡ true → b ≡ false
 not_true true e = sym e
 not_true false e = refl
 
-fresh_by : (xs : List Bool) (v i : ℕ) (same : Bool) → eqb i v ≡ same → not (is_in xs v) ≡ true → (same ≡ false → get_or xs i false ≡ false) → get_or xs i false ≡ false
-fresh_by xs v i true same fresh later = let e : i ≡ v = eqb-true i v same in rw e (sym (is_in-get xs v) ∙ not_true (is_in xs v) fresh)
+fresh_by : (xs : List Bool) (v i : ℕ) (same : Bool) → eqb i v ≡ same → not (is_assigned xs v) ≡ true → (same ≡ false → get_or xs i false ≡ false) → get_or xs i false ≡ false
+fresh_by xs v i true same fresh later = let e : i ≡ v = eqb-true i v same in rw e (sym (is_assigned-get xs v) ∙ not_true (is_assigned xs v) fresh)
 fresh_by xs v i false same fresh later = later refl
 
 fresh_is : (xs : List Bool) (vs : List ℕ) (i : ℕ) → are_fresh xs vs ≡ true → among vs i ≡ true → get_or xs i false ≡ false
 fresh_is xs [] i fresh found = absurd cc
 fresh_is xs (v ∷ vs) i fresh found =
-    let parts = and_parts (not (is_in xs v)) (are_fresh xs vs) fresh in
+    let parts = and_parts (not (is_assigned xs v)) (are_fresh xs vs) fresh in
     fresh_by xs v i (eqb i v) refl parts.0 (λ other. fresh_is xs vs i parts.1 (rw other at found))
 
 back_at : (there : Bool) (x : Bool) → (there ≡ true → x ≡ false) → cond there false (cond there true x) ≡ x
@@ -110,16 +109,16 @@ length-both xs ys same = length-map (zip xs ys) (λ (pair : Bool × Bool). pair.
 
 -- those of the first way that the second one has as well
 pub marked_both : (first second : List ℕ) (xs : List Bool)
-    → marked true (filter (is_in (marked true second xs)) first) xs ≡ both (marked true first xs) (marked true second xs)
+    → marked true (filter (is_assigned (marked true second xs)) first) xs ≡ both (marked true first xs) (marked true second xs)
 marked_both first second xs =
-    let p = is_in (marked true second xs) in
+    let p = is_assigned (marked true second xs) in
     let one : length (marked true first xs) ≡ length xs = length-marked true first xs in
     let other : length (marked true second xs) ≡ length xs = length-marked true second xs in
     let left : length (marked true (filter p first) xs) ≡ length xs = length-marked true (filter p first) xs in
     let right : length (both (marked true first xs) (marked true second xs)) ≡ length xs = length-both (marked true first xs) (marked true second xs) (one ∙ sym other) ∙ one in
     ext_get_or false (marked true (filter p first) xs) (both (marked true first xs) (marked true second xs)) (left ∙ sym right)
     (λ i lt. let within : i < length xs = omega (arith, left, lt) in
-    let passes : p i ≡ cond (among second i) true (get_or xs i false) = is_in-get (marked true second xs) i ∙ get-marked true second xs i within in
+    let passes : p i ≡ cond (among second i) true (get_or xs i false) = is_assigned-get (marked true second xs) i ∙ get-marked true second xs i within in
     get-marked true (filter p first) xs i within
     ∙ (ap (λ x. cond x true (get_or xs i false)) (among-filter p first i ∙ ap (λ x. among first i && x) passes)
     ∙ (both_at (among first i) (among second i) (get_or xs i false)
@@ -129,21 +128,21 @@ marked_both first second xs =
 -- ---- the trail
 
 -- a variable that is assigned already
-pub set_in : (xs : List Bool) (v : ℕ) → is_in xs v ≡ true → xs ≡ set xs v true
-set_in xs v is = sym (ap (λ x. set xs v x) (sym (sym (is_in-get xs v) ∙ is)) ∙ set-get_or xs v false)
+pub set_in : (xs : List Bool) (v : ℕ) → is_assigned xs v ≡ true → xs ≡ set xs v true
+set_in xs v is = sym (ap (λ x. set xs v x) (sym (sym (is_assigned-get xs v) ∙ is)) ∙ set-get_or xs v false)
 
 -- a variable that is not among the assigned ones
 marked_newly : (xs : List Bool) (v : ℕ) → marked true (newly xs v) xs ≡ set xs v true
-marked_newly xs v = by_test (is_in xs v) refl
+marked_newly xs v = by_test (is_assigned xs v) refl
   where
-    by_test : (is : Bool) → is_in xs v ≡ is → marked true (newly xs v) xs ≡ set xs v true
+    by_test : (is : Bool) → is_assigned xs v ≡ is → marked true (newly xs v) xs ≡ set xs v true
     by_test true is = rw is (set_in xs v is)
     by_test false is = rw is refl
 
 fresh_newly : (xs : List Bool) (v : ℕ) → are_fresh xs (newly xs v) ≡ true
-fresh_newly xs v = by_test (is_in xs v) refl
+fresh_newly xs v = by_test (is_assigned xs v) refl
   where
-    by_test : (is : Bool) → is_in xs v ≡ is → are_fresh xs (newly xs v) ≡ true
+    by_test : (is : Bool) → is_assigned xs v ≡ is → are_fresh xs (newly xs v) ≡ true
     by_test true is = rw is refl
     by_test false is = rw (is, is) refl
 
@@ -171,10 +170,10 @@ always true = refl
 always false = refl
 
 -- what is assigned stays so
-stays : (xs : List Bool) (vs : List ℕ) (i : ℕ) → is_in xs i ≡ true → is_in (marked true vs xs) i ≡ true
+stays : (xs : List Bool) (vs : List ℕ) (i : ℕ) → is_assigned xs i ≡ true → is_assigned (marked true vs xs) i ≡ true
 stays xs vs i is =
-    let there : get_or xs i false ≡ true = sym (is_in-get xs i) ∙ is in
-    is_in-get (marked true vs xs) i ∙ (get-marked true vs xs i (inside xs i there) ∙ rw there (always (among vs i)))
+    let there : get_or xs i false ≡ true = sym (is_assigned-get xs i) ∙ is in
+    is_assigned-get (marked true vs xs) i ∙ (get-marked true vs xs i (inside xs i there) ∙ rw there (always (among vs i)))
 
 before_by : (is later : Bool) → (is ≡ true → later ≡ true) → not later ≡ true → not is ≡ true
 before_by true true kept fresh = fresh
@@ -185,8 +184,8 @@ before_by false later kept fresh = refl
 fresh_before : (xs : List Bool) (vs ws : List ℕ) → are_fresh (marked true vs xs) ws ≡ true → are_fresh xs ws ≡ true
 fresh_before xs vs [] fresh = refl
 fresh_before xs vs (w ∷ ws) fresh =
-    let parts = and_parts (not (is_in (marked true vs xs) w)) (are_fresh (marked true vs xs) ws) fresh in
-    rw (before_by (is_in xs w) (is_in (marked true vs xs) w) (stays xs vs w) parts.0, fresh_before xs vs ws parts.1) refl
+    let parts = and_parts (not (is_assigned (marked true vs xs) w)) (are_fresh (marked true vs xs) ws) fresh in
+    rw (before_by (is_assigned xs w) (is_assigned (marked true vs xs) w) (stays xs vs w) parts.0, fresh_before xs vs ws parts.1) refl
 
 -- one growth behind another
 pub extends_twice : (one two three : Tables) → Extends one two → Extends two three → Extends one three
@@ -194,7 +193,7 @@ extends_twice one two three first second = record {
   more = first.more ++ second.more;
   trail = second.trail ∙ rw first.trail (append_assoc one.trail.items first.more second.more);
   assigned = second.assigned ∙ rw first.assigned (sym (fold-append (λ list v. set list v true) one.assigned.items first.more second.more));
-  fresh = list_all-append (λ v. not (is_in one.assigned.items v)) first.more second.more
+  fresh = list_all-append (λ v. not (is_assigned one.assigned.items v)) first.more second.more
       ∙ rw (first.fresh, fresh_before one.assigned.items first.more second.more (rw first.assigned at second.fresh)) refl;
 }
 
@@ -208,10 +207,10 @@ pub record Restored (old last back : Tables) (taken : List ℕ) : Type 0 where
   pub first : last.assigned.items ≡ marked true taken old.assigned.items
   pub fresh : are_fresh old.assigned.items taken ≡ true
 
-pub restored : (old last back : Tables) (taken : List ℕ) (size : ℕ) → size ≡ length old.trail.items → Extends old last
+pub restored : {old last : Tables} {taken : List ℕ} {size : ℕ} (back : Tables) → size ≡ length old.trail.items → Extends old last
     → known_in back ≡ with_assigned (marked false (drop size last.trail.items) last.assigned.items) (known_in last)
     → back.trail.items ≡ take size last.trail.items → taken ≡ drop size last.trail.items → Restored old last back taken
-restored old last back taken size is extends known trail rest =
+restored {old} {last} {taken} {size} back is extends known trail rest =
     let more : drop size last.trail.items ≡ extends.more = rw (is, extends.trail) (drop-append_seam old.trail.items extends.more) in
     let front : take size last.trail.items ≡ old.trail.items = rw (is, extends.trail) (take-append_seam old.trail.items extends.more) in
     let same : taken ≡ extends.more = rest ∙ more in
@@ -225,7 +224,7 @@ restored old last back taken size is extends known trail rest =
       fresh = rw same extends.fresh;
     }
 
-fresh_by_one : (xs : List Bool) (p : ℕ → Bool) (v : ℕ) (vs : List ℕ) (passes : Bool) → not (is_in xs v) ≡ true → are_fresh xs (filter p vs) ≡ true
+fresh_by_one : (xs : List Bool) (p : ℕ → Bool) (v : ℕ) (vs : List ℕ) (passes : Bool) → not (is_assigned xs v) ≡ true → are_fresh xs (filter p vs) ≡ true
     → are_fresh xs (cond passes (v ∷ filter p vs) (filter p vs)) ≡ true
 fresh_by_one xs p v vs true one more = rw (one, more) refl
 fresh_by_one xs p v vs false one more = more
@@ -233,12 +232,12 @@ fresh_by_one xs p v vs false one more = more
 fresh-filter : (xs : List Bool) (p : ℕ → Bool) (vs : List ℕ) → are_fresh xs vs ≡ true → are_fresh xs (filter p vs) ≡ true
 fresh-filter xs p [] fresh = refl
 fresh-filter xs p (v ∷ vs) fresh =
-    let parts = and_parts (not (is_in xs v)) (are_fresh xs vs) fresh in
+    let parts = and_parts (not (is_assigned xs v)) (are_fresh xs vs) fresh in
     fresh_by_one xs p v vs (p v) parts.0 (fresh-filter xs p vs parts.1)
 
 -- what is known behind both blocks of an `if`
 pub joined : (before other back after : Tables) (first taken found : List ℕ) → Restored before other back taken
-    → found ≡ filter (is_in other.assigned.items) first
+    → found ≡ filter (is_assigned other.assigned.items) first
     → known_in after ≡ with_assigned (marked true found back.assigned.items) (known_in back)
     → known_in after ≡ with_assigned (both (marked true first before.assigned.items) other.assigned.items) (known_in other)
 joined before other back after first taken found restored is known =
@@ -248,14 +247,14 @@ joined before other back after first taken found restored is known =
     ∙ ap (λ k. with_assigned (both (marked true first before.assigned.items) other.assigned.items) k) restored.known)
 
 pub extends_joined : (before other back after : Tables) (first taken found : List ℕ) → Restored before other back taken → are_fresh before.assigned.items first ≡ true
-    → found ≡ filter (is_in other.assigned.items) first
+    → found ≡ filter (is_assigned other.assigned.items) first
     → known_in after ≡ with_assigned (marked true found back.assigned.items) (known_in back)
     → after.trail.items ≡ back.trail.items ++ found → Extends before after
 extends_joined before other back after first taken found restored fresh is known trail = record {
   more = found;
   trail = trail ∙ ap (λ front. front ++ found) restored.trail;
   assigned = ap (λ (k : Known). k.assigned) known ∙ ap (λ assigned. marked true found assigned) restored.assigned;
-  fresh = rw is (fresh-filter before.assigned.items (is_in other.assigned.items) first fresh);
+  fresh = rw is (fresh-filter before.assigned.items (is_assigned other.assigned.items) first fresh);
 }
 
 -- an `if` goes on with its second block over what was known before the first one

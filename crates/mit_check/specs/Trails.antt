@@ -1,22 +1,36 @@
--- Which variables became assigned behind a place, and how that is taken back.
-use Rattle.std.specs.Prelude.{◌≡◌, ℕ, List, [], ◌∷◌, ◌++◌, Bool, true, false, not, if◌then◌else◌, fold, slice_get, slice_set, unwrap_or}
+-- Devices of the proofs: nobody has to believe them. What the tables stand for, which variables became assigned, and how that is taken back.
+use Rattle.std.specs.Prelude.{◌≡◌, ℕ, List, [], ◌∷◌, ◌++◌, Bool, true, false, not, if◌then◌else◌, fold, slice_set}
 use Rattle.std.specs.List.{list_all}
+use Rattle.mit_ops.specs.declared.types.OpRefused.{OpRefused}
+use Rattle.mit_ops.specs.declared.types.OpRefused.TheVariants as refused
+use Rattle.mit_script.specs.Accepted.{Known, is_assigned}
+use Rattle.mit_script.specs.declared.typed.CheckCode.TheVariants.{TooLarge, TooManyColumns, WrongType}
+use Rattle.mit_check.specs.declared.faults.CheckStop.{CheckStop}
+use Rattle.mit_check.specs.declared.faults.CheckStop.TheVariants.{Fault, NoMemory}
 use Rattle.mit_check.specs.declared.tables.Tables.{Tables}
+
+-- what the tables stand for
+abbrev pub known_in : Tables → Known
+known_in tables = record { assigned = tables.assigned.items; types = tables.types.items; before = tables.before }
+
+-- how a statement is refused where its operator is
+abbrev pub TellsRefusal : ℕ → OpRefused → CheckStop → Type 0
+TellsRefusal statement refused.TooLarge stop = stop ≡ Fault statement TooLarge
+TellsRefusal statement refused.TooManyColumns stop = stop ≡ Fault statement TooManyColumns
+TellsRefusal statement refused.WrongType stop = stop ≡ Fault statement WrongType
+TellsRefusal statement refused.NoMemory stop = stop ≡ NoMemory
 
 -- the list, where each of these variables stands as this
 abbrev pub marked : Bool → List ℕ → List Bool → List Bool
 marked is variables assigned = fold (λ list variable. slice_set list variable is) assigned variables
 
-abbrev pub is_in : List Bool → ℕ → Bool
-is_in assigned variable = unwrap_or (slice_get assigned variable) false
-
 -- the variable, where it is not among the assigned ones
 abbrev pub newly : List Bool → ℕ → List ℕ
-newly assigned variable = if is_in assigned variable then [] else variable ∷ []
+newly assigned variable = if is_assigned assigned variable then [] else variable ∷ []
 
 -- none of these variables is assigned
 abbrev pub are_fresh : List Bool → List ℕ → Bool
-are_fresh assigned variables = list_all (λ variable. not (is_in assigned variable)) variables
+are_fresh assigned variables = list_all (λ variable. not (is_assigned assigned variable)) variables
 
 -- the trail has grown by the variables that became assigned, none of which was assigned before
 pub record Extends (old new : Tables) : Type 0 where

@@ -4,8 +4,8 @@ ghost use Rattle.mit_script.specs.Accepted as spec;
 ghost use Rattle.mit_script.specs.Accepted.{checked};
 ghost use Rattle.mit_script.specs.Trees.{IsFormed, count_of, count_of_all};
 ghost use Rattle.mit_check.specs.Bags.{HaveBags};
-ghost use Rattle.mit_check.specs.Tells.{TellsFault, known_in};
-ghost use Rattle.mit_check.specs.Trails.{Extends, are_fresh, marked};
+ghost use Rattle.mit_check.specs.Tells.{TellsFault};
+ghost use Rattle.mit_check.specs.Trails.{Extends, are_fresh, known_in, marked};
 
 use crate::faults::CheckStop;
 use crate::operators::{assign, decide, write};
@@ -15,7 +15,7 @@ use mit_ops::VarType;
 use mit_script::{Name, Script, Stmt, Typed, VarTypes};
 use std::alloc::Global;
 
-/// What is known behind the statements of a block.
+/// What is known after the statements of a block.
 #[cycle(check_all)]
 fn check_all(alloc: Global, tables: Tables, block: &[Stmt]) -> Result<Tables, CheckStop>
     requires few { tables.before + count_of_all block.now ≤ 1048576 }
@@ -34,7 +34,7 @@ fn check_all(alloc: Global, tables: Tables, block: &[Stmt]) -> Result<Tables, Ch
     Ok(known)
 }
 
-/// What is known behind an `if`, by what is known before its second block, and what became assigned in the first one.
+/// What is known after an `if`, by what is known before its second block, and what became assigned in the first one.
 #[cycle(check_all)]
 fn check_other(
     alloc: Global,
@@ -58,7 +58,7 @@ fn check_other(
     Ok(put_back(back, &both)?)
 }
 
-/// What is known behind a `while`, by what is known behind its condition.
+/// What is known after a `while`, by what is known after its condition.
 #[cycle(check_all)]
 fn check_body(alloc: Global, inside: Tables, body: &[Stmt]) -> Result<Tables, CheckStop>
     requires few { inside.before + count_of_all body.now ≤ 1048576 }
@@ -76,7 +76,7 @@ fn check_body(alloc: Global, inside: Tables, body: &[Stmt]) -> Result<Tables, Ch
     Ok(back)
 }
 
-/// What is known behind a statement.
+/// What is known after a statement.
 #[cycle(check_all)]
 fn check_one(alloc: Global, tables: Tables, stmt: &Stmt) -> Result<Tables, CheckStop>
     requires few { tables.before + count_of stmt.now ≤ 1048576 }

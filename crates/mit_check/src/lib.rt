@@ -9,6 +9,3 @@ mod trail;
 
 pub use blocks::check;
 pub use faults::CheckStop;
-
-#[cfg(test)]
-mod tests;

@@ -1,15 +1,15 @@
 //! The check of one statement, without those in its blocks.
-ghost use Rattle.std.specs.Prelude.{◌≡◌, ◌+◌, ◌<◌, ◌≤◌, Ok, IfOk, IfErr, length, slice_set, true};
+ghost use Rattle.std.specs.Prelude.{◌≡◌, ◌+◌, ◌<◌, ◌≤◌, Ok, None, Some, IfOk, IfErr, if◌then◌else◌, is_some, length, not, slice_get, slice_set, true, unwrap_or};
 ghost use Rattle.mit_ops.specs.Kinds.{bag_inputs_of};
 ghost use Rattle.mit_ops.specs.Results.{IsBagType, Refuses};
 ghost use Rattle.mit_script.specs.Accepted as spec;
-ghost use Rattle.mit_check.specs.Tells.{TellsFault, TellsRefusal, known_in};
-ghost use Rattle.mit_check.specs.Trails.{Extends};
+ghost use Rattle.mit_check.specs.Tells.{TellsFault};
+ghost use Rattle.mit_check.specs.Trails.{Extends, TellsRefusal, known_in};
 
 use crate::faults::CheckStop;
 use crate::tables::{Kept, Tables};
 use crate::trail::mark;
-use mit_ops::{OpRefused, OpSpec, VarType, result_type};
+use mit_ops::{MAX_CAPTURES, OpRefused, OpSpec, VarType, result_type};
 use mit_rows::ColType;
 use mit_script::CheckCode;
 use std::alloc::{AllocError, Global};
@@ -60,6 +60,10 @@ fn judge(alloc: Global, tables: &Tables, op: &OpSpec, args: &[u32]) -> Result<Ke
         let code = CheckCode::NotScalar;
         return Err(CheckStop::Fault { statement, code });
     }
+    if captured.len() > MAX_CAPTURES {
+        let code = CheckCode::TooLarge;
+        return Err(CheckStop::Fault { statement, code });
+    }
     match infer(alloc, tables, op, args) {
         Ok(is) => Ok(Kept::of(is)),
         Err(why) => Err(refused(statement, why)),
@@ -73,16 +77,28 @@ fn is_condition(is: &VarType) -> bool
     is.scalar && is.cols.as_slice() == [ColType::Bool].as_slice()
 }
 
-/// Keeps the type of a variable.
-fn keep(types: &mut Vec<Option<Kept>>, variable: u32, is: Kept)
-    ensures { types.new.items ≡ slice_set types.old.items variable (Some is) }
+/// Whether a variable has no type yet.
+fn is_untyped(types: &[Option<Kept>], variable: u32) -> bool
+    ensures { result ≡ not (is_some (unwrap_or (slice_get types.now variable) None)) }
 {
-    if (variable as usize) < types.len() {
-        types[variable as usize] = Some(is);
+    match types.get(variable as usize) {
+        Some(Some(_)) => false,
+        _ => true,
     }
 }
 
-/// What is known behind an assignment.
+/// Keeps the type of a variable, unless it has one already.
+fn keep(types: &mut Vec<Option<Kept>>, variable: u32, is: Kept)
+    ensures { types.new.items ≡ (if is_some (unwrap_or (slice_get types.old.items variable) None)
+        then types.old.items else slice_set types.old.items variable (Some is)) }
+{
+    let place = variable as usize;
+    if place < types.len() && is_untyped(types, variable) {
+        types[place] = Some(is);
+    }
+}
+
+/// What is known after an assignment.
 pub(crate) fn assign(
     alloc: Global,
     tables: Tables,
@@ -120,7 +136,7 @@ pub(crate) fn assign(
     })
 }
 
-/// What is known behind one more statement.
+/// What is known after one more statement.
 fn pass(tables: Tables) -> Tables
     requires { tables.before < 1048576 }
     ensures known { known_in result ≡ spec.passed (known_in tables) }
@@ -140,7 +156,7 @@ fn pass(tables: Tables) -> Tables
     }
 }
 
-/// What is known behind a write.
+/// What is known after a write.
 pub(crate) fn write(
     alloc: Global,
     tables: Tables,
@@ -159,7 +175,7 @@ pub(crate) fn write(
     Ok(pass(tables))
 }
 
-/// What is known behind a condition.
+/// What is known after a condition.
 pub(crate) fn decide(
     alloc: Global,
     tables: Tables,

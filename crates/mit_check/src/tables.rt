@@ -3,7 +3,7 @@ ghost use Rattle.std.specs.Prelude.{◌≡◌, IfOk, map, flat_map};
 ghost use Rattle.std.specs.List.{list_all};
 ghost use Rattle.mit_ops.specs.Results.{AreBags, IsBagType};
 ghost use Rattle.mit_script.specs.Accepted as spec;
-ghost use Rattle.mit_check.specs.Tells.{known_in};
+ghost use Rattle.mit_check.specs.Trails.{known_in};
 
 use crate::trail::is_assigned;
 use mit_ops::{ColTypes, VarType};
@@ -79,19 +79,12 @@ impl Tables {
         })
     }
 
-    /// Whether a variable is assigned.
-    fn is_assigned(&self, variable: u32) -> bool
-        ensures { result ≡ spec.is_assigned (known_in self.now) variable }
-    {
-        is_assigned(&self.assigned, variable)
-    }
-
     /// Whether these variables are assigned.
     pub(crate) fn are_assigned(&self, variables: &[u32]) -> bool
-        ensures { result ≡ list_all (spec.is_assigned (known_in self.now)) variables.now }
+        ensures { result ≡ list_all (spec.is_assigned self.now.assigned.items) variables.now }
     {
         for variable in variables {
-            if !self.is_assigned(*variable) {
+            if !is_assigned(&self.assigned, *variable) {
                 return false;
             }
         }

@@ -1,8 +1,7 @@
-//! Which variables became assigned behind a place in the text, and how that is taken back.
+//! Which variables became assigned after a place in the text, and how that is taken back.
 ghost use Rattle.std.specs.Prelude.{◌≡◌, ◌≤◌, ◌++◌, IfOk, drop, filter, length, slice_set, take, true, false};
 ghost use Rattle.mit_script.specs.Accepted as spec;
-ghost use Rattle.mit_check.specs.Tells.{known_in};
-ghost use Rattle.mit_check.specs.Trails.{is_in, marked, newly};
+ghost use Rattle.mit_check.specs.Trails.{known_in, marked, newly};
 
 use crate::tables::Tables;
 use std::alloc::{AllocError, Global};
@@ -29,7 +28,7 @@ pub(crate) fn mark(
 
 /// Whether a variable is assigned.
 pub(crate) fn is_assigned(assigned: &[bool], variable: u32) -> bool
-    ensures { result ≡ is_in assigned.now variable }
+    ensures { result ≡ spec.is_assigned assigned.now variable }
 {
     match assigned.get(variable as usize) {
         Some(is) => *is,
@@ -55,7 +54,7 @@ pub(crate) fn still_assigned(
     variables: &[u32],
     assigned: &[bool],
 ) -> Result<Vec<u32>, AllocError>
-    ensures { IfOk result (λ found. found.items ≡ filter (is_in assigned.now) variables.now) }
+    ensures { IfOk result (λ found. found.items ≡ filter (spec.is_assigned assigned.now) variables.now) }
 {
     variables
         .iter()

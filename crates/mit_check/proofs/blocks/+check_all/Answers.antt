@@ -6,8 +6,8 @@ use Rattle.mit_script.specs.Accepted as spec
 use Rattle.mit_script.specs.Trees.{count_of_all}
 use Rattle.mit_script.specs.declared.tree.Stmt.{the_lemmas}
 use Rattle.mit_check.specs.Bags.{HaveBags}
-use Rattle.mit_check.specs.Tells.{TellsFault, known_in}
-use Rattle.mit_check.specs.Trails.{Extends, is_in}
+use Rattle.mit_check.specs.Tells.{TellsFault}
+use Rattle.mit_check.specs.Trails.{Extends, known_in}
 use Rattle.mit_check.proofs.Bagged.{assign_bags, if_bags, while_bags, write_bags}
 use Rattle.mit_check.proofs.Statements.{check_of-If, count_of-If, count_of-While}
 use Rattle.mit_check.proofs.Trails.{branched_on, extends_by_none, extends_joined, extends_twice, joined, restored}
@@ -22,12 +22,12 @@ check_all-loop-stmt-preserved t c = record {
 
 pub check_body-returns-clause-passed : goal.check_body-returns-clause-passed
 check_body-returns-clause-passed t c =
-    let back = restored c.args.inside c.in_ok-last.last c.in_ok-back.back c.in_ok-back.field-0-1.items c.len-size.result (c.len-size.ensures ∙ c.args.inside.trail.ok.0) c.in_ok-last.ensures.extends c.in_ok-back.ensures.known c.in_ok-back.ensures.trail c.in_ok-back.ensures.taken in
+    let back = restored c.in_ok-back.back (c.len-size.ensures ∙ c.args.inside.trail.ok.0) c.in_ok-last.ensures.extends c.in_ok-back.ensures.known c.in_ok-back.ensures.trail c.in_ok-back.ensures.taken in
     rw c.in_ok-last.ensures.passed (ap Ok (sym back.known))
 
 pub check_body-returns-clause-extends : goal.check_body-returns-clause-extends
 check_body-returns-clause-extends t c =
-    let back = restored c.args.inside c.in_ok-last.last c.in_ok-back.back c.in_ok-back.field-0-1.items c.len-size.result (c.len-size.ensures ∙ c.args.inside.trail.ok.0) c.in_ok-last.ensures.extends c.in_ok-back.ensures.known c.in_ok-back.ensures.trail c.in_ok-back.ensures.taken in
+    let back = restored c.in_ok-back.back (c.len-size.ensures ∙ c.args.inside.trail.ok.0) c.in_ok-last.ensures.extends c.in_ok-back.ensures.known c.in_ok-back.ensures.trail c.in_ok-back.ensures.taken in
     extends_by_none c.args.inside c.in_ok-back.back back.trail back.assigned
 
 pub check_one-returns-in_ok-inside-in-While-clause-extends : goal.check_one-returns-in_ok-inside-in-While-clause-extends
@@ -37,20 +37,20 @@ check_one-returns-in_ok-inside-in-While-clause-extends t c =
 
 pub check_other-returns-clause-passed : goal.check_other-returns-clause-passed
 check_other-returns-clause-passed t c =
-    let back = restored c.args.before c.in_ok-other.other c.in_ok-back.back c.in_ok-back.field-0-1.items c.len-size.result (c.len-size.ensures ∙ c.args.before.trail.ok.0) c.in_ok-other.ensures.extends c.in_ok-back.ensures.known c.in_ok-back.ensures.trail c.in_ok-back.ensures.taken in
-    let found : c.deref-2.result.now ≡ filter (is_in c.in_ok-other.other.assigned.items) c.args.first.now = c.deref-2.ensures.value ∙ (c.in_ok-both.ensures ∙ ap (λ assigned. filter (is_in assigned) c.args.first.now) c.deref.ensures.value) in
+    let back = restored c.in_ok-back.back (c.len-size.ensures ∙ c.args.before.trail.ok.0) c.in_ok-other.ensures.extends c.in_ok-back.ensures.known c.in_ok-back.ensures.trail c.in_ok-back.ensures.taken in
+    let found : c.deref-2.result.now ≡ filter (spec.is_assigned c.in_ok-other.other.assigned.items) c.args.first.now = c.deref-2.ensures.value ∙ (c.in_ok-both.ensures ∙ ap (λ assigned. filter (spec.is_assigned assigned) c.args.first.now) c.deref.ensures.value) in
     let known = joined c.args.before c.in_ok-other.other c.in_ok-back.back c.in_ok-put_back.field-0 c.args.first.now c.in_ok-back.field-0-1.items c.deref-2.result.now back found c.in_ok-put_back.ensures.known in
     rw c.in_ok-other.ensures.passed (ap Ok (sym known))
 
 pub check_other-returns-clause-extends : goal.check_other-returns-clause-extends
 check_other-returns-clause-extends t c =
-    let back = restored c.args.before c.in_ok-other.other c.in_ok-back.back c.in_ok-back.field-0-1.items c.len-size.result (c.len-size.ensures ∙ c.args.before.trail.ok.0) c.in_ok-other.ensures.extends c.in_ok-back.ensures.known c.in_ok-back.ensures.trail c.in_ok-back.ensures.taken in
-    let found : c.deref-2.result.now ≡ filter (is_in c.in_ok-other.other.assigned.items) c.args.first.now = c.deref-2.ensures.value ∙ (c.in_ok-both.ensures ∙ ap (λ assigned. filter (is_in assigned) c.args.first.now) c.deref.ensures.value) in
+    let back = restored c.in_ok-back.back (c.len-size.ensures ∙ c.args.before.trail.ok.0) c.in_ok-other.ensures.extends c.in_ok-back.ensures.known c.in_ok-back.ensures.trail c.in_ok-back.ensures.taken in
+    let found : c.deref-2.result.now ≡ filter (spec.is_assigned c.in_ok-other.other.assigned.items) c.args.first.now = c.deref-2.ensures.value ∙ (c.in_ok-both.ensures ∙ ap (λ assigned. filter (spec.is_assigned assigned) c.args.first.now) c.deref.ensures.value) in
     λ fresh. extends_joined c.args.before c.in_ok-other.other c.in_ok-back.back c.in_ok-put_back.field-0 c.args.first.now c.in_ok-back.field-0-1.items c.deref-2.result.now back fresh found c.in_ok-put_back.ensures.known c.in_ok-put_back.ensures.trail
 
 pub check_one-returns-in_ok-before-in-If-clause-passed : goal.check_one-returns-in_ok-before-in-If-clause-passed
 check_one-returns-in_ok-before-in-If-clause-passed t c =
-    let back = restored c.in_ok-inside-in-If.inside c.in_ok-one-in-If.one c.in_ok-before-in-If.before c.in_ok-before-in-If.first.items c.len-size.result (c.len-size.ensures ∙ c.in_ok-inside-in-If.inside.trail.ok.0) c.in_ok-one-in-If.ensures.extends c.in_ok-before-in-If.ensures.known c.in_ok-before-in-If.ensures.trail c.in_ok-before-in-If.ensures.taken in
+    let back = restored c.in_ok-before-in-If.before (c.len-size.ensures ∙ c.in_ok-inside-in-If.inside.trail.ok.0) c.in_ok-one-in-If.ensures.extends c.in_ok-before-in-If.ensures.known c.in_ok-before-in-If.ensures.trail c.in_ok-before-in-If.ensures.taken in
     let yes = map spec.check_of c.in-If.yes in
     let no = map spec.check_of c.in-If.no in
     let decided : spec.decided_by c.in-If.op c.in-If.args (known_in c.args.tables) ≡ Ok (known_in c.in_ok-inside-in-If.inside) = rw c.as_slice-in-If.ensures at c.in_ok-inside-in-If.ensures.passed in
@@ -60,7 +60,7 @@ check_one-returns-in_ok-before-in-If-clause-passed t c =
 
 pub check_one-returns-in_ok-before-in-If-clause-fault : goal.check_one-returns-in_ok-before-in-If-clause-fault
 check_one-returns-in_ok-before-in-If-clause-fault t c =
-    let back = restored c.in_ok-inside-in-If.inside c.in_ok-one-in-If.one c.in_ok-before-in-If.before c.in_ok-before-in-If.first.items c.len-size.result (c.len-size.ensures ∙ c.in_ok-inside-in-If.inside.trail.ok.0) c.in_ok-one-in-If.ensures.extends c.in_ok-before-in-If.ensures.known c.in_ok-before-in-If.ensures.trail c.in_ok-before-in-If.ensures.taken in
+    let back = restored c.in_ok-before-in-If.before (c.len-size.ensures ∙ c.in_ok-inside-in-If.inside.trail.ok.0) c.in_ok-one-in-If.ensures.extends c.in_ok-before-in-If.ensures.known c.in_ok-before-in-If.ensures.trail c.in_ok-before-in-If.ensures.taken in
     let yes = map spec.check_of c.in-If.yes in
     let no = map spec.check_of c.in-If.no in
     let decided : spec.decided_by c.in-If.op c.in-If.args (known_in c.args.tables) ≡ Ok (known_in c.in_ok-inside-in-If.inside) = rw c.as_slice-in-If.ensures at c.in_ok-inside-in-If.ensures.passed in
@@ -70,7 +70,7 @@ check_one-returns-in_ok-before-in-If-clause-fault t c =
 
 pub check_one-returns-in_ok-before-in-If-clause-extends : goal.check_one-returns-in_ok-before-in-If-clause-extends
 check_one-returns-in_ok-before-in-If-clause-extends t c =
-    let back = restored c.in_ok-inside-in-If.inside c.in_ok-one-in-If.one c.in_ok-before-in-If.before c.in_ok-before-in-If.first.items c.len-size.result (c.len-size.ensures ∙ c.in_ok-inside-in-If.inside.trail.ok.0) c.in_ok-one-in-If.ensures.extends c.in_ok-before-in-If.ensures.known c.in_ok-before-in-If.ensures.trail c.in_ok-before-in-If.ensures.taken in
+    let back = restored c.in_ok-before-in-If.before (c.len-size.ensures ∙ c.in_ok-inside-in-If.inside.trail.ok.0) c.in_ok-one-in-If.ensures.extends c.in_ok-before-in-If.ensures.known c.in_ok-before-in-If.ensures.trail c.in_ok-before-in-If.ensures.taken in
     let inside = extends_twice c.args.tables c.in_ok-inside-in-If.inside c.in_ok-before-in-If.before c.in_ok-inside-in-If.ensures.extends (extends_by_none c.in_ok-inside-in-If.inside c.in_ok-before-in-If.before back.trail back.assigned) in
     IfOk-weaker c.check_other.result (Extends c.in_ok-before-in-If.before) (Extends c.args.tables)
     (λ after more. extends_twice c.args.tables c.in_ok-before-in-If.before after inside more) (c.check_other.ensures.extends (rw (c.deref.ensures.value, back.assigned) back.fresh))
@@ -95,10 +95,12 @@ check_one-check_all-requires t c =
 
 pub check_one-check_other-requires : goal.check_one-check_other-requires
 check_one-check_other-requires t c =
-    let back = restored c.in_ok-inside-in-If.inside c.in_ok-one-in-If.one c.in_ok-before-in-If.before c.in_ok-before-in-If.first.items c.len-size.result (c.len-size.ensures ∙ c.in_ok-inside-in-If.inside.trail.ok.0) c.in_ok-one-in-If.ensures.extends c.in_ok-before-in-If.ensures.known c.in_ok-before-in-If.ensures.trail c.in_ok-before-in-If.ensures.taken in
+    let back = restored c.in_ok-before-in-If.before (c.len-size.ensures ∙ c.in_ok-inside-in-If.inside.trail.ok.0) c.in_ok-one-in-If.ensures.extends c.in_ok-before-in-If.ensures.known c.in_ok-before-in-If.ensures.trail c.in_ok-before-in-If.ensures.taken in
     let inside : All HaveBags c.as_slice-in-If-3.result.now = rw c.as_slice-in-If-3.ensures (if_bags _ _ c.in-If.is c.requires.complete).2 in
     let before : c.in_ok-before-in-If.before.before ≡ c.in_ok-one-in-If.one.before = ap (λ (k : spec.Known). k.before) back.known in
-    search (rules, the_lemmas, tests, common_steps)
+    let room : c.args.tables.before + (1 + count_of_all c.in-If.yes + count_of_all c.in-If.no) ≤ 1048576 = rw (count_of-If c.in-If.op c.in-If.args c.in-If.yes c.in-If.no) at (rw c.in-If.is at c.requires.few) in
+    let counted = rw c.as_slice-in-If-2.ensures at c.in_ok-one-in-If.ensures.counted in
+    (search (rules, the_lemmas, tests, common_steps), (rw c.as_slice-in-If-3.ensures (omega (arith, room, before, counted, c.in_ok-inside-in-If.ensures.counted)), inside))
 
 pub check_one-check_body-requires : goal.check_one-check_body-requires
 check_one-check_body-requires t c =

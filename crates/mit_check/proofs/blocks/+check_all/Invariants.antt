@@ -2,8 +2,7 @@
 use Rattle.std.proofs.Common.{◌≡◌, ◌+◌, drop, map}
 use Rattle.mit_script.specs.Accepted as spec
 use Rattle.mit_script.specs.Trees.{count_of_all}
-use Rattle.mit_check.specs.Tells.{known_in}
-use Rattle.mit_check.specs.Trails.{Extends}
+use Rattle.mit_check.specs.Trails.{Extends, known_in}
 use Rattle.mit_check.proofs.blocks.+check_all.Given as goal
 
 abbrev pub invariant-check_all-loop-stmt : goal.invariant-check_all-loop-stmt

@@ -1,7 +1,7 @@
 use Rattle.std.proofs.Common.{◌≡◌, drop}
 use Rattle.std.specs.List.{list_all}
 use Rattle.mit_script.specs.Accepted as spec
-use Rattle.mit_check.specs.Tells.{known_in}
+use Rattle.mit_check.specs.Trails.{known_in}
 use Rattle.mit_check.proofs.tables.Tables.are_scalars.Given as goal
 
 abbrev pub invariant-loop-variable : goal.invariant-loop-variable

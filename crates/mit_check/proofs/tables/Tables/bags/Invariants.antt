@@ -1,7 +1,7 @@
 use Rattle.std.proofs.Common.{◌≡◌, map, take}
 use Rattle.mit_ops.specs.Results.{AreBags}
 use Rattle.mit_script.specs.Accepted as spec
-use Rattle.mit_check.specs.Tells.{known_in}
+use Rattle.mit_check.specs.Trails.{known_in}
 use Rattle.mit_check.proofs.tables.Tables.bags.Given as goal
 
 abbrev pub invariant-loop-variable : goal.invariant-loop-variable

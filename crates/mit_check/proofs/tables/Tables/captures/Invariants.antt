@@ -1,6 +1,6 @@
 use Rattle.std.proofs.Common.{◌≡◌, flat_map, take}
 use Rattle.mit_script.specs.Accepted as spec
-use Rattle.mit_check.specs.Tells.{known_in}
+use Rattle.mit_check.specs.Trails.{known_in}
 use Rattle.mit_check.proofs.tables.Tables.captures.Given as goal
 
 abbrev pub invariant-loop-variable : goal.invariant-loop-variable
