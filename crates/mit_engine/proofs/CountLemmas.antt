@@ -4,9 +4,9 @@ use Rattle.std.specs.Prelude.{Bool, true, map, Some, slice_index_or, sum_by}
 use Rattle.std.proofs.lemmas.List.Sums.{get_or-le-sum_by, sum_by-cons, sum_by-le}
 use Rattle.std.proofs.lemmas.Option.{get_or_from_slice_get, slice_get_within}
 use Rattle.mit_rows.specs.Bags.{BagOf}
-use Rattle.mit_engine.specs.Shelf.{Kept}
-use Rattle.mit_engine.specs.Operators.{assigned_after, edge_left, first_edge, first_operator, left_of, operator_left, sources, sources_from, sources_of, unheard}
-use Rattle.mit_engine.specs.Running.{EdgeHolds, Failed, Made, Part, PathHolds, Stands, Unmade, left, verdict_from}
+use Rattle.mit_shelf.specs.Shelf.{Kept}
+use Rattle.mit_engine.specs.Operators.{JobState, actions_left, assigned_after, edge_left, first_edge, first_job, first_operator, left_of, operator_left, sources_from, sources_of, unheard}
+use Rattle.mit_engine.specs.Running.{AtFault, EdgeHolds, Made, Part, PathHolds, Stands, Unmade, verdict_of}
 use Rattle.mit_engine.specs.Thin.{edges_of}
 use Rattle.mit_engine.specs.declared.edges.Received.{Received}
 use Rattle.mit_engine.specs.declared.operators.Operator.{Operator}
@@ -37,7 +37,7 @@ first_operators_left assigned at (first ∷ steps) =
     omega (arith, own, rest, sum_by-cons operator_left (first_operator from) (map first_operator later), sum_by-cons edges_of first steps)
 
 -- before the first action all of them are left
-pub first_left : (steps : List ThinStep) → left (0 ∷ []) (map first_operator (sources steps)) ≡ 1 + 2 * length steps + sum_by edges_of steps
+pub first_left : (steps : List ThinStep) → actions_left (first_job steps) ≡ 1 + 2 * length steps + sum_by edges_of steps
 first_left steps = omega (arith, first_operators_left [] 0 steps)
 
 -- ---- where each operator is heard Done
@@ -46,7 +46,7 @@ first_left steps = omega (arith, first_operators_left [] 0 steps)
 polled_edge : (part : Part) (polled : Bool) (parts : List BagOf) (received : Received) → EdgeHolds part polled parts received → polled ≡ true
     → left_of received ≡ 0
 polled_edge Unmade polled parts received holds is = cc
-polled_edge (Failed kind) polled parts received holds is = cc
+polled_edge (AtFault kind) polled parts received holds is = cc
 polled_edge (Made bag) polled parts received (inl sent) is = cc
 polled_edge (Made bag) polled parts received (inr (inl here)) is = cc
 polled_edge (Made bag) polled parts received (inr (inr fed)) is = rw fed.2
@@ -67,28 +67,28 @@ path_learned parts path learned at bag (inl (known, waits, unmade)) made = cc (u
 path_learned parts path learned at bag (inr known) made = known.1
 
 -- where each operator is heard Done none is left
-pub complete_left : (steps : List ThinStep) (shelf : Kept) (path : List ℕ) (learned : Bool) (operators : List Operator)
-    → Stands steps shelf path learned operators → verdict_from 0 operators ≡ verdict.Complete → 0 < length steps → left path operators ≡ 0
-complete_left steps shelf path learned operators stands complete some =
+pub complete_left : {steps : List ThinStep} {shelf : Kept} {job : JobState} → Stands steps shelf job → verdict_of job ≡ verdict.Complete
+    → 0 < length steps → actions_left job ≡ 0
+complete_left {steps} {job = job} stands complete some =
     let holds = stands.holds in
-    let done = all_done 0 operators complete in
-    let none = sum_by-none operator_left operators (λ at operator there.
+    let done = all_done 0 job.operators complete in
+    let none = sum_by-none operator_left job.operators (λ at operator there.
     operator_done steps stands.parts at operator (held_at holds at operator there) (done at operator there)) in
-    let first = got_within operators 0 (omega (arith, holds.sized)) in
+    let first = got_within job.operators 0 (omega (arith, holds.sized)) in
     let told = (held_at holds 0 first.0 first.1).held.reports in
     let made = done_made (stands.parts 0) first.0.polled first.0.reports first.0.heard told (done 0 first.0 first.1) in
-    omega (arith, none, ap length (path_learned stands.parts path learned 0 (bag_of (stands.parts 0)) holds.begun made.0))
+    omega (arith, none, ap length (path_learned stands.parts job.path job.learned 0 (bag_of (stands.parts 0)) holds.begun made.0))
 
 -- ---- while the job runs
 
 -- at least one is left: the first operator that is not heard has one
-pub something_left : (path : List ℕ) (operators : List Operator) → verdict_from 0 operators ≡ verdict.Running → 0 < left path operators
-something_left path operators runs =
-    let first = first_unheard 0 operators runs in
+pub something_left : (job : JobState) → verdict_of job ≡ verdict.Running → 0 < actions_left job
+something_left job runs =
+    let first = first_unheard 0 job.operators runs in
     omega (
       arith,
-      get_or-le-sum_by operator_left operators first.place first.operator (slice_get_within operators first.place first.operator first.there),
-      ap operator_left (get_or_from_slice_get operators first.place first.operator first.operator first.there),
+      get_or-le-sum_by operator_left job.operators first.place first.operator (slice_get_within job.operators first.place first.operator first.there),
+      ap operator_left (get_or_from_slice_get job.operators first.place first.operator first.operator first.there),
       ap unheard first.unheard,
     )
 

@@ -1,14 +1,14 @@
 -- The job as it starts, and the deliveries of messages: each keeps what the job stands for, and takes one from the actions that are left.
 use Rattle.std.proofs.Common.{◌≡◌, ◌∙◌, ◌+◌, ◌<◌, ℕ, List, [], ◌∷◌, Option, Some, None, Bool, true, false, length, drop, ap, sym, subst, refl, inl, inr, arith}
-use Rattle.std.specs.Prelude.{map, slice_get, slice_set}
+use Rattle.std.specs.Prelude.{slice_get, slice_set}
 use Rattle.std.proofs.Math.Seq.{map-set_same}
 use Rattle.std.proofs.lemmas.List.{length-map, map-id}
 use Rattle.std.proofs.lemmas.Simd.{map-map}
 use Rattle.std.proofs.lemmas.Option.{get_or_from_slice_get}
 use Rattle.mit_rows.specs.Bags.{BagOf}
-use Rattle.mit_engine.specs.Shelf.{Kept}
-use Rattle.mit_engine.specs.Operators.{edge_left, first_edge, first_operator, heard_of, hears, left_of, operator_left, received_of, sources, takes, unheard}
-use Rattle.mit_engine.specs.Running.{EdgeHolds, Failed, Holds, Made, OperatorHolds, Part, PathHolds, ReportsPart, StagesPart, Stands, Unmade, left}
+use Rattle.mit_shelf.specs.Shelf.{Kept}
+use Rattle.mit_engine.specs.Operators.{JobState, edge_left, first_edge, first_job, first_operator, heard_of, hears, left_of, operator_left, received_of, sources, takes, unheard, with_operators}
+use Rattle.mit_engine.specs.Running.{AtFault, EdgeHolds, Goes, HasPart, Holds, Made, OperatorCan, OperatorHolds, Part, PathHolds, ReportsPart, StagesPart, Stands, Unmade}
 use Rattle.mit_engine.specs.declared.edges.Edge.{Edge}
 use Rattle.mit_engine.specs.declared.edges.Received.{Received}
 use Rattle.mit_engine.specs.declared.edges.Received.TheVariants.{Awaited, Here}
@@ -38,7 +38,7 @@ first_holds statement from at = record {
   staged = StagesPart_unmade statement None;
 }
 
-starts_with : (steps : List ThinStep) (shelf : Kept) → Stands steps shelf (0 ∷ []) false (map first_operator (sources steps))
+starts_with : (steps : List ThinStep) (shelf : Kept) → Stands steps shelf (first_job steps)
 starts_with steps shelf = record {
   parts = λ _. Unmade;
   holds = record {
@@ -53,45 +53,52 @@ starts_with steps shelf = record {
   means = λ files agrees k statement from does leads. tt;
 }
 
-pub starts : (steps : List ThinStep) (shelf : Kept) (path : List ℕ) (learned : Bool) (operators : List Operator)
-    → path ≡ 0 ∷ [] → learned ≡ false → operators ≡ map first_operator (sources steps) → Stands steps shelf path learned operators
-starts steps shelf path learned operators one not_yet first =
-    let P : List ℕ → Type 0 = λ p. Stands steps shelf p learned operators in
-    let Q : Bool → Type 0 = λ b. Stands steps shelf (0 ∷ []) b operators in
-    let R : List Operator → Type 0 = λ os. Stands steps shelf (0 ∷ []) false os in
-    subst P (sym one) (subst Q (sym not_yet) (subst R (sym first) (starts_with steps shelf)))
+pub starts : (steps : List ThinStep) (shelf : Kept) (job : JobState) → job ≡ first_job steps → Stands steps shelf job
+starts steps shelf job is = let P : JobState → Type 0 = Stands steps shelf in subst P (sym is) (starts_with steps shelf)
 
 -- ---- the path is learned
 
-PathHolds_learned : (parts : ℕ → Part) (path path' : List ℕ) (learned : Bool) → PathHolds parts path learned → 0 < length path → path' ≡ drop 1 path
-    → (path' ≡ []) × (length path ≡ 1)
-PathHolds_learned parts path path' learned begun some rest = elim begun [
-  | inl e ↦ (rest ∙ ap (drop 1) e.1, ap length e.1)
+PathHolds_learned : (parts : ℕ → Part) (path : List ℕ) (learned : Bool) → PathHolds parts path learned → 0 < length path
+    → (drop 1 path ≡ []) × (length path ≡ 1)
+PathHolds_learned parts path learned begun some = elim begun [
+  | inl e ↦ (ap (drop 1) e.1, ap length e.1)
   | inr e ↦ absurd (omega (arith, ap length e.1))
 ]
 
-pub learn_stands : (steps : List ThinStep) (shelf : Kept) (path path' : List ℕ) (learned learned' : Bool) (operators : List Operator)
-    → Stands steps shelf path learned operators → 0 < length path → path' ≡ drop 1 path → learned' ≡ true
-    → Stands steps shelf path' learned' operators × (left path' operators + 1 ≡ left path operators)
-learn_stands steps shelf path path' learned learned' operators stands some rest now =
-    let none : (path' ≡ []) × (length path ≡ 1) = PathHolds_learned stands.parts path path' learned stands.holds.begun some rest in
-    let after : Stands steps shelf path' learned' operators = record {
-      parts = stands.parts;
-      holds = record { sized = stands.holds.sized; begun = inr (now, none.0); each = stands.holds.each };
-      means = stands.means;
-    } in
-    (after, omega (arith, ap length none.0))
+pub learn_goes : {steps : List ThinStep} {shelf : Kept} {job : JobState} → Stands steps shelf job → 0 < length job.path
+    → Goes steps shelf job (record { path = drop 1 job.path; learned = true; operators = job.operators })
+learn_goes {job = job} stands some =
+    let none = PathHolds_learned stands.parts job.path job.learned stands.holds.begun some in
+    record {
+      stands = record {
+        parts = stands.parts;
+        holds = record { sized = stands.holds.sized; begun = inr (refl, none.0); each = stands.holds.each };
+        means = stands.means;
+      };
+      counted = omega (arith, ap length none.0, none.1);
+    }
 
 -- ---- one operator is delivered a message
 
 -- it still holds what the parts say
-Holds-set : {steps : List ThinStep} {parts : ℕ → Part} {path : List ℕ} {learned : Bool} {operators : List Operator} (at : ℕ) (operator operator' : Operator)
-    → slice_get operators at ≡ Some operator
+Holds-set : {steps : List ThinStep} {parts : ℕ → Part} {job : JobState} (at : ℕ) (operator operator' : Operator)
+    → slice_get job.operators at ≡ Some operator
     → ((statement : ThinStep) (from : List ℕ) → OperatorHolds statement from parts at operator → OperatorHolds statement from parts at operator')
-    → Holds steps parts path learned operators → Holds steps parts path learned (slice_set operators at operator')
-Holds-set {parts = parts} {operators = operators} at operator operator' is keeps holds =
+    → Holds steps parts job → Holds steps parts (with_operators job (slice_set job.operators at operator'))
+Holds-set {parts = parts} {job} at operator operator' is keeps holds =
     let here = held_at holds at operator is in
-    Holds_after here.statement parts holds.begun is here.stated (After-set operators at operator') holds (keeps here.statement) (λ k other again from apart leads before. before)
+    Holds_after here.statement parts holds.begun is here.stated (After-set job.operators at operator') holds (keeps here.statement)
+    (λ k other again from apart leads before. before)
+
+-- where it holds it, and one action fewer is left of it
+delivered : {steps : List ThinStep} {shelf : Kept} {job : JobState} (at : ℕ) (operator operator' : Operator) → slice_get job.operators at ≡ Some operator
+    → (stands : Stands steps shelf job)
+    → ((statement : ThinStep) (from : List ℕ) → OperatorHolds statement from stands.parts at operator → OperatorHolds statement from stands.parts at operator')
+    → operator_left operator' + 1 ≡ operator_left operator → Goes steps shelf job (with_operators job (slice_set job.operators at operator'))
+delivered {job = job} at operator operator' is stands keeps less = record {
+  stands = record { parts = stands.parts; holds = Holds-set at operator operator' is keeps stands.holds; means = stands.means };
+  counted = left-set job at operator operator' is less;
+}
 
 -- ---- a report is heard
 
@@ -99,7 +106,7 @@ ReportsPart_heard : (part : Part) (polled : Bool) (outcome : Outcome) (later : L
     → ReportsPart part polled (outcome ∷ later) heard → ReportsPart part polled later (Some outcome) × (heard ≡ None)
 ReportsPart_heard Unmade polled outcome later heard is = absurd cc
 ReportsPart_heard (Made bag) polled outcome later heard is = elim is.1 [ inl e ↦ ((is.0, inr (cc, cc)), e.1) | inr e ↦ absurd cc ]
-ReportsPart_heard (Failed kind) polled outcome later heard is = elim is.1 [ inl e ↦ ((is.0, inr (cc, cc)), e.1) | inr e ↦ absurd cc ]
+ReportsPart_heard (AtFault kind) polled outcome later heard is = elim is.1 [ inl e ↦ ((is.0, inr (cc, cc)), e.1) | inr e ↦ absurd cc ]
 
 heard_holds : {statement : ThinStep} {from : List ℕ} {parts : ℕ → Part} {at : ℕ} {operator : Operator} (reports : List Outcome) → operator.reports ≡ reports
     → 0 < length reports → OperatorHolds statement from parts at operator → OperatorHolds statement from parts at (heard_of operator reports)
@@ -120,24 +127,20 @@ heard_left part operator (outcome ∷ later) are some is =
     let P : List Outcome → Type 0 = λ reports. ReportsPart part operator.polled reports operator.heard in
     omega (arith, ap unheard (ReportsPart_heard part operator.polled outcome later operator.heard (subst P are is)).1)
 
-pub hear_stands : (steps : List ThinStep) (shelf : Kept) (path : List ℕ) (learned : Bool) (operators : List Operator) (at : ℕ) (operator : Operator)
-    → slice_get operators at ≡ Some operator → 0 < length operator.reports → Stands steps shelf path learned operators
-    → Stands steps shelf path learned (slice_set operators at (hears operator)) × (left path (slice_set operators at (hears operator)) + 1 ≡ left path operators)
-hear_stands steps shelf path learned operators at operator is some stands =
-    let before = (held_at stands.holds at operator is).held in
-    let after : Stands steps shelf path learned (slice_set operators at (hears operator)) = record {
-      parts = stands.parts;
-      holds = Holds-set at operator (hears operator) is (λ statement from holds. heard_holds operator.reports refl some holds) stands.holds;
-      means = stands.means;
-    } in
-    (after, left-set path operators at operator (hears operator) is (heard_left (stands.parts at) operator operator.reports refl some before.reports))
+pub hear_goes : {steps : List ThinStep} {shelf : Kept} {job : JobState} {at : ℕ} → (can : OperatorCan job at (λ operator. 0 < length operator.reports))
+    → Stands steps shelf job → Goes steps shelf job (with_operators job (slice_set job.operators at (hears can.operator)))
+hear_goes {at = at} can stands =
+    let operator = can.operator in
+    let before = (held_at stands.holds at operator can.there).held in
+    delivered at operator (hears operator) can.there stands (λ statement from holds. heard_holds operator.reports refl can.can holds)
+    (heard_left (stands.parts at) operator operator.reports refl can.can before.reports)
 
 -- ---- a part is taken
 
 EdgeHolds_taken : (part : Part) (polled : Bool) (bag : BagOf) (later : List BagOf) (received : Received)
     → EdgeHolds part polled (bag ∷ later) received → EdgeHolds part polled later (Here bag) × (received ≡ Awaited)
 EdgeHolds_taken Unmade polled bag later received is = absurd cc
-EdgeHolds_taken (Failed kind) polled bag later received is = absurd cc
+EdgeHolds_taken (AtFault kind) polled bag later received is = absurd cc
 EdgeHolds_taken (Made made) polled bag later received is = elim is [
   | inl e ↦ (inr (inl (e.0, cc, cc)), e.2)
   | inr e ↦ absurd (elim e [ inl f ↦ cc | inr f ↦ cc ])
@@ -172,17 +175,17 @@ taken_holds {parts = parts} {operator = operator} input edge edge' there taken h
   staged = holds.staged;
 }
 
-pub take_stands : (steps : List ThinStep) (shelf : Kept) (path : List ℕ) (learned : Bool) (operators : List Operator) (at input : ℕ) (operator : Operator) (edge : Edge)
-    → slice_get operators at ≡ Some operator → slice_get operator.inputs input ≡ Some edge → 0 < length edge.parts → Stands steps shelf path learned operators
-    → Stands steps shelf path learned (slice_set operators at (record operator { inputs = slice_set operator.inputs input (takes edge) }))
-    × (left path (slice_set operators at (record operator { inputs = slice_set operator.inputs input (takes edge) })) + 1 ≡ left path operators)
-take_stands steps shelf path learned operators at input operator edge is there some stands =
-    let before = (held_at stands.holds at operator is).held in
-    let taken = edge_taken (stands.parts edge.from) operator.polled edge edge.parts refl some (before.edges input edge there) in
-    let operator' : Operator = record operator { inputs = slice_set operator.inputs input (takes edge) } in
-    let after : Stands steps shelf path learned (slice_set operators at operator') = record {
-      parts = stands.parts;
-      holds = Holds-set at operator operator' is (λ statement from holds. taken_holds input edge (takes edge) there taken holds) stands.holds;
-      means = stands.means;
-    } in
-    (after, left-set path operators at operator operator' is (omega (arith, sum_by-set_less edge_left operator.inputs input edge (takes edge) there taken.2)))
+-- an operator with the message of one of its edges received
+abbrev pub takes_at : ℕ → Operator → Edge → Operator
+takes_at input operator edge = record operator { inputs = slice_set operator.inputs input (takes edge) }
+
+pub take_goes : {steps : List ThinStep} {shelf : Kept} {job : JobState} {at input : ℕ} → (can : OperatorCan job at (HasPart input))
+    → Stands steps shelf job → Goes steps shelf job (with_operators job (slice_set job.operators at (takes_at input can.operator can.can.edge)))
+take_goes {at = at} {input} can stands =
+    let operator = can.operator in
+    let edge = can.can.edge in
+    let there = can.can.there in
+    let before = (held_at stands.holds at operator can.there).held in
+    let taken = edge_taken (stands.parts edge.from) operator.polled edge edge.parts refl can.can.some (before.edges input edge there) in
+    delivered at operator (takes_at input operator edge) can.there stands (λ statement from holds. taken_holds input edge (takes edge) there taken holds)
+    (omega (arith, sum_by-set_less edge_left operator.inputs input edge (takes edge) there taken.2))

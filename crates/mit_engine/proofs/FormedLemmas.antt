@@ -4,7 +4,7 @@ use Rattle.std.specs.Prelude.{Bool, true, false, if◌then◌else◌, nat_lt, sl
 use Rattle.std.proofs.lemmas.List.{length-append, length-set}
 use Rattle.std.proofs.lemmas.Option.{slice_get_within}
 use Rattle.mit_engine.specs.Operators.{Fits, assigned_after}
-use Rattle.mit_engine.specs.Thin.{FormedFrom, IsFormed, MayAssign, assign, columns_after}
+use Rattle.mit_engine.specs.Thin.{FormedFrom, IsFormedThin, MayAssign, assign, columns_after}
 use Rattle.mit_engine.specs.declared.thin.ThinStep.{ThinStep}
 use Rattle.mit_engine.specs.declared.thin.ThinStep.TheVariants as step
 
@@ -14,7 +14,7 @@ pub record FormedAfter (assigned : List ℕ) (steps : List ThinStep) : Type 0 wh
   pub sized : length assigned ≡ length columns
   pub formed : FormedFrom columns steps
 
-pub formed_first : (steps : List ThinStep) → IsFormed steps → FormedAfter [] steps
+pub formed_first : (steps : List ThinStep) → IsFormedThin steps → FormedAfter [] steps
 formed_first steps formed = record { columns = []; sized = refl; formed = formed.1 }
 
 target_within : (columns : List ℕ) (target count : ℕ) → MayAssign columns target count → target ≤ length columns

@@ -1,11 +1,11 @@
 -- An operator with its statement and its sources, what holds of it, and what still holds of all where one of them changes.
-use Rattle.std.proofs.Common.{◌≡◌, ◌∙◌, ◌+◌, ◌⊎◌, ℕ, List, length, Some, Bool, ap, sym, subst, refl, inl, inr, arith}
+use Rattle.std.proofs.Common.{◌≡◌, ◌∙◌, ◌+◌, ◌⊎◌, ℕ, List, length, Some, ap, sym, subst, refl, inl, inr, arith}
 use Rattle.std.specs.Prelude.{map, option_map, slice_get, slice_set}
 use Rattle.std.specs.List.{All}
 use Rattle.std.proofs.lemmas.List.{length-set}
 use Rattle.std.proofs.lemmas.Option.{slice_get-map}
-use Rattle.mit_engine.specs.Operators.{operator_left, sources}
-use Rattle.mit_engine.specs.Running.{Holds, OperatorHolds, Part, PathHolds, left}
+use Rattle.mit_engine.specs.Operators.{JobState, actions_left, operator_left, sources, with_operators}
+use Rattle.mit_engine.specs.Running.{Holds, OperatorHolds, Part, PathHolds}
 use Rattle.mit_engine.specs.declared.edges.Edge.{Edge}
 use Rattle.mit_engine.specs.declared.operators.Operator.{Operator}
 use Rattle.mit_engine.specs.declared.thin.ThinStep.{ThinStep}
@@ -21,10 +21,10 @@ pub record HeldAt (steps : List ThinStep) (parts : ℕ → Part) (at : ℕ) (ope
   pub sourced : slice_get (sources steps) at ≡ Some from
   pub held : OperatorHolds statement from parts at operator
 
-pub held_at : {steps : List ThinStep} {parts : ℕ → Part} {path : List ℕ} {learned : Bool} {operators : List Operator} → Holds steps parts path learned operators
-    → (at : ℕ) (operator : Operator) → slice_get operators at ≡ Some operator → HeldAt steps parts at operator
-held_at {steps} {operators = operators} holds at operator is =
-    let does = got_beside operators steps at operator holds.sized is in
+pub held_at : {steps : List ThinStep} {parts : ℕ → Part} {job : JobState} → Holds steps parts job
+    → (at : ℕ) (operator : Operator) → slice_get job.operators at ≡ Some operator → HeldAt steps parts at operator
+held_at {steps} {job = job} holds at operator is =
+    let does = got_beside job.operators steps at operator holds.sized is in
     let leads = sources_at steps at does.0 does.1 in
     record { statement = does.0; from = leads.0; stated = does.1; sourced = leads.1; held = holds.each at operator does.0 leads.0 is does.1 leads.1 }
 
@@ -55,13 +55,13 @@ After-set operators at own = record {
 }
 
 -- the operators hold what new parts say, where the path, the changed operator and each other one do
-pub Holds_after : {steps : List ThinStep} {parts : ℕ → Part} {path : List ℕ} {learned : Bool} {operators after : List Operator} {at : ℕ} {own operator : Operator}
-    {other : Operator → Operator} (statement : ThinStep) (new : ℕ → Part) → PathHolds new path learned → slice_get operators at ≡ Some operator → slice_get steps at ≡ Some statement
-    → After operators after at own other → Holds steps parts path learned operators
+pub Holds_after : {steps : List ThinStep} {parts : ℕ → Part} {job : JobState} {after : List Operator} {at : ℕ} {own operator : Operator}
+    {other : Operator → Operator} (statement : ThinStep) (new : ℕ → Part) → PathHolds new job.path job.learned → slice_get job.operators at ≡ Some operator
+    → slice_get steps at ≡ Some statement → After job.operators after at own other → Holds steps parts job
     → ((from : List ℕ) → OperatorHolds statement from parts at operator → OperatorHolds statement from new at own)
     → ((k : ℕ) (old : Operator) (again : ThinStep) (from : List ℕ) → ¬ (k ≡ at) → slice_get (sources steps) k ≡ Some from
     → OperatorHolds again from parts k old → OperatorHolds again from new k (other old))
-    → Holds steps new path learned after
+    → Holds steps new (with_operators job after)
 Holds_after {steps} {at = at} {own} {operator} statement new begun is does changes holds own_keeps other_keeps = record {
   sized = changes.sized ∙ holds.sized;
   begun = begun;
@@ -80,7 +80,7 @@ Holds_after {steps} {at = at} {own} {operator} statement new begun is does chang
 }
 
 -- one action fewer is left of the operator at a place
-pub left-set : (path : List ℕ) (operators : List Operator) (at : ℕ) (operator operator' : Operator) → slice_get operators at ≡ Some operator
-    → operator_left operator' + 1 ≡ operator_left operator → left path (slice_set operators at operator') + 1 ≡ left path operators
-left-set path operators at operator operator' is less =
-    omega (arith, sum_by-set_less operator_left operators at operator operator' is less)
+pub left-set : (job : JobState) (at : ℕ) (operator operator' : Operator) → slice_get job.operators at ≡ Some operator
+    → operator_left operator' + 1 ≡ operator_left operator → actions_left (with_operators job (slice_set job.operators at operator')) + 1 ≡ actions_left job
+left-set job at operator operator' is less =
+    omega (arith, sum_by-set_less operator_left job.operators at operator operator' is less)

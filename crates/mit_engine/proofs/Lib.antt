@@ -1,10 +1,3 @@
-pub mod NameFacts
-pub mod ParseFacts
-pub mod RecordFacts
-pub mod RowFacts
-pub mod PrintFacts
-pub mod ShelfLemmas
-pub mod StagingLemmas
 pub mod Places
 pub mod FormedLemmas
 pub mod SourceLemmas
@@ -17,5 +10,5 @@ pub mod PollLemmas
 pub mod ActLemmas
 pub mod OfferLemmas
 pub mod CountLemmas
-pub mod EndLemmas
-pub mod RunLemmas
+pub mod JobEnds
+pub mod JobRuns

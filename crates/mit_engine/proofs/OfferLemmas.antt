@@ -5,10 +5,10 @@ use Rattle.std.specs.List.{All, list_all}
 use Rattle.std.proofs.lemmas.List.Elements.{All-append, All-cons, All-nil}
 use Rattle.std.proofs.lemmas.Option.{same_Some, slice_get_within}
 use Rattle.mit_rows.specs.Bags.{BagOf}
-use Rattle.mit_engine.specs.Shelf.{Kept}
-use Rattle.mit_engine.specs.Operators.{can_poll, is_here}
-use Rattle.mit_engine.specs.Running.{EdgeHolds, Failed, Holds, IsEnabled, Made, Part, PathHolds, Reports, ReportsPart, Stands, Unmade, edges_from, offer_of, parts_from, polls_from, reports_from, verdict_from, where_any}
-use Rattle.mit_engine.specs.Thin.{IsFormed}
+use Rattle.mit_shelf.specs.Shelf.{Kept}
+use Rattle.mit_engine.specs.Operators.{JobState, can_poll, is_here}
+use Rattle.mit_engine.specs.Running.{AtFault, EdgeHolds, Holds, IsEnabled, Made, Part, PathHolds, Reports, ReportsPart, Stands, Unmade, edges_from, offer_of, parts_from, polls_from, reports_from, verdict_of, where_any}
+use Rattle.mit_engine.specs.Thin.{IsFormedThin}
 use Rattle.mit_engine.specs.declared.edges.Edge.{Edge}
 use Rattle.mit_engine.specs.declared.edges.Received.{Received}
 use Rattle.mit_engine.specs.declared.edges.Received.TheVariants.{Here}
@@ -81,21 +81,27 @@ all_polls P at (first ∷ operators) f =
     (all_if P (can_poll first) (action.Poll at ∷ []) (λ can. All-cons P (action.Poll at) [] (f 0 at first (omega arith) refl can) (All-nil P)))
     (all_polls P (at + 1) operators (λ j n operator is there can. f (suc j) n operator (omega arith) there can))
 
-pub offered_enabled : (path : List ℕ) (learned : Bool) (operators : List Operator) (k : ℕ) (action : Action)
-    → slice_get (offer_of path learned operators) k ≡ Some action → IsEnabled path learned operators action
-offered_enabled path learned operators k chosen is =
-    let P : Action → Type 0 = IsEnabled path learned operators in
-    let heads : List Action = where_any path action.Learn ++ reports_from 0 operators in
-    let all : All P (offer_of path learned operators) =
-    All-append P (heads ++ parts_from 0 operators) (if learned then polls_from 0 operators else [])
+pub offered_enabled : (job : JobState) (k : ℕ) (action : Action) → slice_get (offer_of job) k ≡ Some action → IsEnabled job action
+offered_enabled job k chosen is =
+    let P : Action → Type 0 = IsEnabled job in
+    let operators : List Operator = job.operators in
+    let heads : List Action = where_any job.path action.Learn ++ reports_from 0 operators in
+    let reports : All P (reports_from 0 operators) =
+    all_reports P 0 operators (λ j n operator is there some. record { operator = operator; there = from_none operators j n operator is there; can = some }) in
+    let parts : All P (parts_from 0 operators) =
+    all_parts P 0 operators (λ j n input operator edge is there below some. record {
+      operator = operator;
+      there = from_none operators j n operator is there;
+      can = record { edge = edge; there = below; some = some };
+    }) in
+    let polls : All P (if job.learned then polls_from 0 operators else []) =
+    all_if P job.learned (polls_from 0 operators) (λ known. all_polls P 0 operators (λ j n operator is there can.
+    (known, record { operator = operator; there = from_none operators j n operator is there; can = can }))) in
+    let all : All P (offer_of job) =
+    All-append P (heads ++ parts_from 0 operators) (if job.learned then polls_from 0 operators else [])
     (All-append P heads (parts_from 0 operators)
-    (All-append P (where_any path action.Learn) (reports_from 0 operators)
-    (all_where P path action.Learn (λ some. some))
-    (all_reports P 0 operators (λ j n operator is there some. (operator, from_none operators j n operator is there, some))))
-    (all_parts P 0 operators (λ j n input operator edge is there below some. (operator, edge, from_none operators j n operator is there, below, some))))
-    (all_if P learned (polls_from 0 operators)
-    (λ known. all_polls P 0 operators (λ j n operator is there can. (known, (operator, from_none operators j n operator is there, can))))) in
-    All-got P (offer_of path learned operators) k chosen all is
+    (All-append P (where_any job.path action.Learn) (reports_from 0 operators) (all_where P job.path action.Learn (λ some. some)) reports) parts) polls in
+    All-got P (offer_of job) k chosen all is
 
 -- ---- what can be done stands on the offer
 
@@ -156,25 +162,24 @@ abbrev polls_offered : Bool → List Operator → List Action
 polls_offered learned operators = if learned then polls_from 0 operators else []
 
 -- what can be done stands on the offer, so that it is not empty
-enabled_offered : (path : List ℕ) (learned : Bool) (operators : List Operator) (action : Action)
-    → IsEnabled path learned operators action → 0 < length (offer_of path learned operators)
-enabled_offered path learned operators action.Learn some =
-    longer_left _ (polls_offered learned operators) (longer_left _ (parts_from 0 operators)
-    (longer_left (where_any path action.Learn) (reports_from 0 operators) (some_where path action.Learn some)))
-enabled_offered path learned operators (action.Hear at) can =
-    longer_left _ (polls_offered learned operators) (longer_left _ (parts_from 0 operators)
-    (longer_right (where_any path action.Learn) (reports_from 0 operators) (some_report 0 at operators can.0 can.1 can.2)))
-enabled_offered path learned operators (action.Take at input) can =
-    longer_left _ (polls_offered learned operators) (longer_right (where_any path action.Learn ++ reports_from 0 operators) (parts_from 0 operators)
-    (some_part 0 at input operators can.0 can.1 can.2 can.3 can.4))
-enabled_offered path learned operators (action.Poll at) can =
-    longer_right (where_any path action.Learn ++ reports_from 0 operators ++ parts_from 0 operators) (polls_offered learned operators)
-    (some_if learned (polls_from 0 operators) can.0 (some_poll 0 at operators can.1.0 can.1.1 can.1.2))
+enabled_offered : (job : JobState) (action : Action) → IsEnabled job action → 0 < length (offer_of job)
+enabled_offered job action.Learn some =
+    longer_left _ (polls_offered job.learned job.operators) (longer_left _ (parts_from 0 job.operators)
+    (longer_left (where_any job.path action.Learn) (reports_from 0 job.operators) (some_where job.path action.Learn some)))
+enabled_offered job (action.Hear at) can =
+    longer_left _ (polls_offered job.learned job.operators) (longer_left _ (parts_from 0 job.operators)
+    (longer_right (where_any job.path action.Learn) (reports_from 0 job.operators) (some_report 0 at job.operators can.operator can.there can.can)))
+enabled_offered job (action.Take at input) can =
+    longer_left _ (polls_offered job.learned job.operators) (longer_right (where_any job.path action.Learn ++ reports_from 0 job.operators) (parts_from 0 job.operators)
+    (some_part 0 at input job.operators can.operator can.can.edge can.there can.can.there can.can.some))
+enabled_offered job (action.Poll at) can =
+    longer_right (where_any job.path action.Learn ++ reports_from 0 job.operators ++ parts_from 0 job.operators) (polls_offered job.learned job.operators)
+    (some_if job.learned (polls_from 0 job.operators) can.0 (some_poll 0 at job.operators can.1.operator can.1.there can.1.can))
 
 -- ---- while the job runs something can be done
 
 -- the operator from which an edge leads stands before its target
-edge_below : (steps : List ThinStep) (parts : ℕ → Part) (at : ℕ) (operator : Operator) (input : ℕ) (edge : Edge) → IsFormed steps
+edge_below : (steps : List ThinStep) (parts : ℕ → Part) (at : ℕ) (operator : Operator) (input : ℕ) (edge : Edge) → IsFormedThin steps
     → HeldAt steps parts at operator → slice_get operator.inputs input ≡ Some edge → edge.from < at
 edge_below steps parts at operator input edge formed here there =
     edge_source (λ n. n < at) operator.inputs here.from here.held.wired
@@ -185,7 +190,7 @@ edge_below steps parts at operator input edge formed here there =
 made_arrives : (part : Part) (bag : BagOf) (polled : Bool) (parts : List BagOf) (received : Received) → part ≡ Made bag → EdgeHolds part polled parts received
     → polled ≡ false → (0 < length parts) ⊎ ((other : BagOf) × (received ≡ Here other))
 made_arrives Unmade bag polled parts received is holds unpolled = cc
-made_arrives (Failed kind) bag polled parts received is holds unpolled = cc
+made_arrives (AtFault kind) bag polled parts received is holds unpolled = cc
 made_arrives (Made other) bag polled parts received is (inl sent) unpolled = inl (rw sent.1 (omega arith))
 made_arrives (Made other) bag polled parts received is (inr (inl here)) unpolled = inr (other, here.2)
 made_arrives (Made other) bag polled parts received is (inr (inr fed)) unpolled = cc
@@ -220,49 +225,52 @@ report_or_unpolled : (part : Part) (polled : Bool) (reports : List Outcome) (hea
     → (0 < length reports) ⊎ (polled ≡ false)
 report_or_unpolled Unmade polled reports heard r unheard = inr r.0
 report_or_unpolled (Made bag) polled reports heard r unheard = inl (report_waits outcome.Done reports heard r.1 unheard)
-report_or_unpolled (Failed kind) polled reports heard r unheard = inl (report_waits (outcome.Fault kind) reports heard r.1 unheard)
+report_or_unpolled (AtFault kind) polled reports heard r unheard = inl (report_waits (outcome.Fault kind) reports heard r.1 unheard)
 
 -- what stands before the first operator that is not heard has made its bag
-before_made : (steps : List ThinStep) (parts : ℕ → Part) (path : List ℕ) (learned : Bool) (operators : List Operator) (at : ℕ)
-    → Holds steps parts path learned operators → (first : FirstUnheard operators) → at < first.place → parts at ≡ Made (bag_of (parts at))
-before_made steps parts path learned operators at holds first before =
-    let other = got_within operators at (omega (arith, slice_get_within operators first.place first.operator first.there)) in
+before_made : {steps : List ThinStep} {parts : ℕ → Part} {job : JobState} (at : ℕ) → Holds steps parts job → (first : FirstUnheard job.operators)
+    → at < first.place → parts at ≡ Made (bag_of (parts at))
+before_made {parts = parts} {job} at holds first before =
+    let other = got_within job.operators at (omega (arith, slice_get_within job.operators first.place first.operator first.there)) in
     let told = (held_at holds at other.0 other.1).held.reports in
     (done_made (parts at) other.0.polled other.0.reports other.0.heard told (first.earlier at other.0 before other.1)).0
 
 -- the first operator that is not heard can do something, where the path is learned
-first_can : (steps : List ThinStep) (parts : ℕ → Part) (path : List ℕ) (operators : List Operator) → IsFormed steps
-    → Holds steps parts path true operators → FirstUnheard operators → (action : Action) × IsEnabled path true operators action
-first_can steps parts path operators formed holds first =
+first_can : {steps : List ThinStep} {parts : ℕ → Part} {job : JobState} → IsFormedThin steps → job.learned ≡ true
+    → Holds steps parts job → FirstUnheard job.operators → (action : Action) × IsEnabled job action
+first_can {steps} {parts} {job} formed known holds first =
     let here = held_at holds first.place first.operator first.there in
     by_report here (report_or_unpolled (parts first.place) first.operator.polled first.operator.reports first.operator.heard here.held.reports first.unheard)
   where
     by_edges : first.operator.polled ≡ false → Waits first.operator.inputs ⊎ (list_all is_here first.operator.inputs ≡ true)
-        → (action : Action) × IsEnabled path true operators action
-    by_edges unpolled (inl waits) = (action.Take first.place waits.input, (first.operator, waits.edge, first.there, waits.there, waits.some))
-    by_edges unpolled (inr all) = (action.Poll first.place, (refl, (first.operator, first.there, rw (unpolled, all))))
+        → (action : Action) × IsEnabled job action
+    by_edges unpolled (inl waits) = (
+      action.Take first.place waits.input,
+      record {
+        operator = first.operator;
+        there = first.there;
+        can = record { edge = waits.edge; there = waits.there; some = waits.some };
+      },
+    )
+    by_edges unpolled (inr all) = (action.Poll first.place, (known, record { operator = first.operator; there = first.there; can = rw (unpolled, all) }))
 
     by_report : HeldAt steps parts first.place first.operator → (0 < length first.operator.reports) ⊎ (first.operator.polled ≡ false)
-        → (action : Action) × IsEnabled path true operators action
-    by_report here (inl some) = (action.Hear first.place, (first.operator, first.there, some))
+        → (action : Action) × IsEnabled job action
+    by_report here (inl some) = (action.Hear first.place, record { operator = first.operator; there = first.there; can = some })
     by_report here (inr unpolled) = by_edges unpolled (waits_or_here first.operator.inputs (λ input edge there.
         let below = edge_below steps parts first.place first.operator input edge formed here there in
-        let made = before_made steps parts path true operators edge.from holds first below in
+        let made = before_made edge.from holds first below in
         made_arrives (parts edge.from) (bag_of (parts edge.from)) first.operator.polled edge.parts edge.received made (here.held.edges input edge there) unpolled))
 
 -- while the job runs something can be done: the path's message, or of the first operator that is not heard its report, one of its parts, or its poll
-something_enabled : (steps : List ThinStep) (shelf : Kept) (path : List ℕ) (learned : Bool) (operators : List Operator) → IsFormed steps
-    → Stands steps shelf path learned operators → verdict_from 0 operators ≡ verdict.Running → (action : Action) × IsEnabled path learned operators action
-something_enabled steps shelf path learned operators formed stands runs = by_path stands.holds.begun
+something_enabled : {steps : List ThinStep} {shelf : Kept} {job : JobState} → IsFormedThin steps → Stands steps shelf job → verdict_of job ≡ verdict.Running
+    → (action : Action) × IsEnabled job action
+something_enabled {job = job} formed stands runs = by_path stands.holds.begun
   where
-    by_path : PathHolds stands.parts path learned → (action : Action) × IsEnabled path learned operators action
+    by_path : PathHolds stands.parts job.path job.learned → (action : Action) × IsEnabled job action
     by_path (inl waits) = (action.Learn, rw waits.1 (omega arith))
-    by_path (inr known) =
-        let P : Bool → Type 0 = λ b. Holds steps stands.parts path b operators in
-        let Q : Bool → Type 0 = λ b. (action : Action) × IsEnabled path b operators action in
-        subst Q (sym known.0) (first_can steps stands.parts path operators formed (subst P known.0 stands.holds) (first_unheard 0 operators runs))
+    by_path (inr known) = first_can formed known.0 stands.holds (first_unheard 0 job.operators runs)
 
-pub something_offered : (steps : List ThinStep) (shelf : Kept) (path : List ℕ) (learned : Bool) (operators : List Operator) → IsFormed steps
-    → Stands steps shelf path learned operators → verdict_from 0 operators ≡ verdict.Running → 0 < length (offer_of path learned operators)
-something_offered steps shelf path learned operators formed stands runs =
-    let some = something_enabled steps shelf path learned operators formed stands runs in enabled_offered path learned operators some.0 some.1
+pub something_offered : {steps : List ThinStep} {shelf : Kept} {job : JobState} → IsFormedThin steps → Stands steps shelf job → verdict_of job ≡ verdict.Running
+    → 0 < length (offer_of job)
+something_offered {job = job} formed stands runs = let some = something_enabled formed stands runs in enabled_offered job some.0 some.1

@@ -6,7 +6,7 @@ use Rattle.std.proofs.lemmas.List.{append-nil, append_assoc, at_drop_all, drop_a
 use Rattle.mit_rows.specs.Bags.{BagOf}
 use Rattle.mit_world.specs.Files.{FileMap}
 use Rattle.mit_engine.specs.Operators.{staged_write, writes_of}
-use Rattle.mit_engine.specs.Printed.{published_onto}
+use Rattle.mit_shelf.specs.Printed.{published_onto}
 use Rattle.mit_engine.specs.Running.{verdict_at, verdict_from, where_any}
 use Rattle.mit_engine.specs.declared.operators.Operator.{Operator}
 use Rattle.mit_engine.specs.declared.operators.Outcome.{Outcome}

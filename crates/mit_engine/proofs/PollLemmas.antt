@@ -9,10 +9,10 @@ use Rattle.std.proofs.lemmas.List.Folds.{map_fixed}
 use Rattle.std.proofs.lemmas.Simd.{map-map}
 use Rattle.mit_rows.specs.Bags.{BagOf}
 use Rattle.mit_world.specs.Files.{FileMap}
-use Rattle.mit_engine.specs.Shelf.{Agrees, Kept}
-use Rattle.mit_engine.specs.Thin.{FormedFrom, IsFormed, edges_of}
-use Rattle.mit_engine.specs.Operators.{IsReady, after_poll, assigned_after, bag_received, bags_here, can_poll, edge_left, fed_of, feeds, is_here, is_received, left_of, operator_left, polls, sends, sends_all, sources, whole}
-use Rattle.mit_engine.specs.Running.{EdgeHolds, Failed, Holds, Made, MadeOf, Means, OperatorHolds, Part, PathHolds, ReportsPart, StagesPart, Stands, Unmade, bags_of, left, with_bag}
+use Rattle.mit_shelf.specs.Shelf.{Agrees, Kept}
+use Rattle.mit_engine.specs.Thin.{FormedFrom, IsFormedThin, edges_of}
+use Rattle.mit_engine.specs.Operators.{IsReady, JobState, actions_left, after_poll, assigned_after, bag_received, bags_here, can_poll, edge_left, fed_of, feeds, is_here, is_received, left_of, operator_left, passed_on, polls, sends, sends_all, sources, whole, with_operators}
+use Rattle.mit_engine.specs.Running.{AtFault, EdgeHolds, Goes, Holds, Made, MadeOf, Means, OperatorCan, OperatorHolds, Part, PathHolds, ReportsPart, StagesPart, Stands, Unmade, bags_made, with_bag}
 use Rattle.mit_ops.specs.declared.faults.FaultKind.{FaultKind}
 use Rattle.mit_engine.specs.declared.edges.Edge.{Edge}
 use Rattle.mit_engine.specs.declared.edges.Received.{Received}
@@ -46,12 +46,12 @@ ReportsPart_unpolled : (part : Part) (polled : Bool) (reports : List Outcome) (h
     → (part ≡ Unmade) × (reports ≡ []) × (heard ≡ None)
 ReportsPart_unpolled Unmade polled reports heard not_yet is = (refl, is.1, is.2)
 ReportsPart_unpolled (Made bag) polled reports heard not_yet is = absurd cc
-ReportsPart_unpolled (Failed kind) polled reports heard not_yet is = absurd cc
+ReportsPart_unpolled (AtFault kind) polled reports heard not_yet is = absurd cc
 
 EdgeHolds_here : (part : Part) (polled : Bool) (parts : List BagOf) (received : Received) → is_received received ≡ true → EdgeHolds part polled parts received
     → (bag : BagOf) × (part ≡ Made bag) × (parts ≡ []) × (received ≡ Here bag)
 EdgeHolds_here Unmade polled parts received here is = absurd (cc (ap is_received is.2))
-EdgeHolds_here (Failed kind) polled parts received here is = absurd (cc (ap is_received is.2))
+EdgeHolds_here (AtFault kind) polled parts received here is = absurd (cc (ap is_received is.2))
 EdgeHolds_here (Made bag) polled parts received here is = elim is [
   | inl e ↦ absurd (cc (ap is_received e.2))
   | inr e ↦ elim e [ inl f ↦ (bag, refl, f.1, f.2) | inr f ↦ absurd (cc (ap is_received f.2)) ]
@@ -81,34 +81,34 @@ source_apart : {parts : ℕ → Part} {at : ℕ} {operator : Operator} → IsWai
 source_apart waiting input edge is same = let here = waiting.inputs.each input edge is in absurd (cc (here.1, waiting.unmade))
 
 -- the bags that its sources have made are those that it received
-bags_of_here : (parts : ℕ → Part) (inputs : List Edge) → AreHere parts inputs → bags_of parts (sources_in inputs) ≡ Some (bags_here inputs)
+bags_made_here : (parts : ℕ → Part) (inputs : List Edge) → AreHere parts inputs → bags_made parts (sources_in inputs) ≡ Some (bags_here inputs)
 unfolding bags_here
-bags_of_here parts [] here = refl
-bags_of_here parts (edge ∷ inputs) here =
+bags_made_here parts [] here = refl
+bags_made_here parts (edge ∷ inputs) here =
     let first = here.each zero edge refl in
     let rest : AreHere parts inputs = record { each = λ input other is. here.each (suc input) other is } in
-    ap (λ part. with_bag part (bags_of parts (sources_in inputs))) first.1
-    ∙ ap (with_bag (Made first.0)) (bags_of_here parts inputs rest)
+    ap (λ part. with_bag part (bags_made parts (sources_in inputs))) first.1
+    ∙ ap (with_bag (Made first.0)) (bags_made_here parts inputs rest)
     ∙ ap (λ (r : Received). Some (bag_received r ++ bags_here inputs)) (sym first.3)
 
 with_bag_some : (part : Part) (others : Option (List BagOf)) (bags : List BagOf) → with_bag part others ≡ Some bags
     → (bag : BagOf) × (later : List BagOf) × (part ≡ Made bag) × (others ≡ Some later) × (bags ≡ bag ∷ later)
 with_bag_some Unmade others bags is = cc
-with_bag_some (Failed kind) others bags is = cc
+with_bag_some (AtFault kind) others bags is = cc
 with_bag_some (Made bag) None bags is = cc
 with_bag_some (Made bag) (Some later) bags is = (bag, later, refl, refl, cc)
 
-length-bags_of : (parts : ℕ → Part) (from : List ℕ) (bags : List BagOf) → bags_of parts from ≡ Some bags → length bags ≡ length from
-length-bags_of parts [] bags is = let none : bags ≡ [] = cc in ap length none
-length-bags_of parts (source ∷ from) bags is =
-    let all = with_bag_some (parts source) (bags_of parts from) bags is in
-    ap length all.4 ∙ ap suc (length-bags_of parts from all.1 all.3)
+length-bags_made : (parts : ℕ → Part) (from : List ℕ) (bags : List BagOf) → bags_made parts from ≡ Some bags → length bags ≡ length from
+length-bags_made parts [] bags is = let none : bags ≡ [] = cc in ap length none
+length-bags_made parts (source ∷ from) bags is =
+    let all = with_bag_some (parts source) (bags_made parts from) bags is in
+    ap length all.4 ∙ ap suc (length-bags_made parts from all.1 all.3)
 
 -- ---- what it makes
 
 abbrev part_of : Result BagOf FaultKind → Part
 part_of (Ok bag) = Made bag
-part_of (Err kind) = Failed kind
+part_of (Err kind) = AtFault kind
 
 -- the parts with this one made
 abbrev parts_with : (ℕ → Part) → ℕ → Part → ℕ → Part
@@ -128,24 +128,24 @@ one_more parts at part unmade = record {
 }
 
 -- sources that have all made their bags keep them
-bags_of_kept : {parts new : ℕ → Part} {at : ℕ} {part : Part} → OneMore parts new at part → (from : List ℕ) (bags : List BagOf)
-    → bags_of parts from ≡ Some bags → bags_of new from ≡ Some bags
-bags_of_kept more [] bags is = is
-bags_of_kept {parts} {new} {at} more (source ∷ from) bags is =
-    let all = with_bag_some (parts source) (bags_of parts from) bags is in
+bags_made_kept : {parts new : ℕ → Part} {at : ℕ} {part : Part} → OneMore parts new at part → (from : List ℕ) (bags : List BagOf)
+    → bags_made parts from ≡ Some bags → bags_made new from ≡ Some bags
+bags_made_kept more [] bags is = is
+bags_made_kept {parts} {new} {at} more (source ∷ from) bags is =
+    let all = with_bag_some (parts source) (bags_made parts from) bags is in
     let other : ¬ (source ≡ at) = λ e. absurd (cc (all.2, more.unmade)) in
-    ap (λ part. with_bag part (bags_of new from)) (more.others source other)
-    ∙ ap (with_bag (parts source)) (bags_of_kept more from all.1 all.3 ∙ sym all.3) ∙ is
+    ap (λ part. with_bag part (bags_made new from)) (more.others source other)
+    ∙ ap (with_bag (parts source)) (bags_made_kept more from all.1 all.3 ∙ sym all.3) ∙ is
 
 MadeOf_kept : (files : FileMap) (statement : ThinStep) (old new : Option (List BagOf)) (part : Part) → ((bags : List BagOf) → old ≡ Some bags → new ≡ Some bags)
     → MadeOf files statement old part → MadeOf files statement new part
 MadeOf_kept files statement old new Unmade same is = tt
 MadeOf_kept files statement None new (Made bag) same is = absurd is
-MadeOf_kept files statement None new (Failed kind) same is = absurd is
+MadeOf_kept files statement None new (AtFault kind) same is = absurd is
 MadeOf_kept files statement (Some bags) new (Made bag) same is =
     let P : Option (List BagOf) → Type 0 = λ o. MadeOf files statement o (Made bag) in subst P (sym (same bags refl)) is
-MadeOf_kept files statement (Some bags) new (Failed kind) same is =
-    let P : Option (List BagOf) → Type 0 = λ o. MadeOf files statement o (Failed kind) in subst P (sym (same bags refl)) is
+MadeOf_kept files statement (Some bags) new (AtFault kind) same is =
+    let P : Option (List BagOf) → Type 0 = λ o. MadeOf files statement o (AtFault kind) in subst P (sym (same bags refl)) is
 
 MadeOf_made : (files : FileMap) (statement : ThinStep) (bags : List BagOf) (made : Result BagOf FaultKind) → whole files statement bags ≡ made
     → MadeOf files statement (Some bags) (part_of made)
@@ -155,17 +155,17 @@ MadeOf_made files statement bags (Err kind) is = is
 -- its part means what its statement makes of the bags that it received
 made_means : {parts new : ℕ → Part} {at : ℕ} {operator : Operator} (files : FileMap) (statement : ThinStep) (from : List ℕ) (made : Result BagOf FaultKind)
     → OneMore parts new at (part_of made) → IsWaiting parts at operator → sources_in operator.inputs ≡ from
-    → whole files statement (bags_here operator.inputs) ≡ made → MadeOf files statement (bags_of new from) (new at)
+    → whole files statement (bags_here operator.inputs) ≡ made → MadeOf files statement (bags_made new from) (new at)
 made_means {parts} {new} {at} {operator} files statement from made more waiting wired makes =
     let bags = bags_here operator.inputs in
-    let all = bags_of_kept more from bags (ap (bags_of parts) (sym wired) ∙ bags_of_here parts operator.inputs waiting.inputs) in
+    let all = bags_made_kept more from bags (ap (bags_made parts) (sym wired) ∙ bags_made_here parts operator.inputs waiting.inputs) in
     let P : Option (List BagOf) → Type 0 = λ o. MadeOf files statement o (new at) in
     let Q : Part → Type 0 = λ p. MadeOf files statement (Some bags) p in
     subst P (sym all) (subst Q (sym more.made) (MadeOf_made files statement bags made makes))
 
-poll_means : {steps : List ThinStep} {parts : ℕ → Part} {path : List ℕ} {learned : Bool} {operators : List Operator} {at : ℕ} {operator : Operator}
-    (files : FileMap) (statement : ThinStep) (made : Result BagOf FaultKind) → slice_get operators at ≡ Some operator → slice_get steps at ≡ Some statement
-    → IsWaiting parts at operator → Holds steps parts path learned operators → whole files statement (bags_here operator.inputs) ≡ made
+poll_means : {steps : List ThinStep} {parts : ℕ → Part} {job : JobState} {at : ℕ} {operator : Operator}
+    (files : FileMap) (statement : ThinStep) (made : Result BagOf FaultKind) → slice_get job.operators at ≡ Some operator → slice_get steps at ≡ Some statement
+    → IsWaiting parts at operator → Holds steps parts job → whole files statement (bags_here operator.inputs) ≡ made
     → Means files steps parts → Means files steps (parts_with parts at (part_of made))
 poll_means {steps} {parts} {at = at} {operator} files statement made is does waiting holds makes means k again from does' leads =
     let new : ℕ → Part = parts_with parts at (part_of made) in
@@ -174,13 +174,13 @@ poll_means {steps} {parts} {at = at} {operator} files statement made is does wai
       | inl e ↦
           let same : statement ≡ again = cc in
           let wired = (holds.each at operator statement from is does (ap (slice_get (sources steps)) (sym e) ∙ leads)).wired in
-          let P : ℕ → Type 0 = λ n. MadeOf files again (bags_of new from) (new n) in
-          let Q : ThinStep → Type 0 = λ s. MadeOf files s (bags_of new from) (new at) in
+          let P : ℕ → Type 0 = λ n. MadeOf files again (bags_made new from) (new n) in
+          let Q : ThinStep → Type 0 = λ s. MadeOf files s (bags_made new from) (new at) in
           subst P (sym e) (subst Q same (made_means files statement from made more waiting wired makes))
       | inr e ↦
-          let P : Part → Type 0 = λ p. MadeOf files again (bags_of new from) p in
+          let P : Part → Type 0 = λ p. MadeOf files again (bags_made new from) p in
           let before = means k again from does' leads in
-          subst P (sym (more.others k e)) (MadeOf_kept files again (bags_of parts from) (bags_of new from) (parts k) (bags_of_kept more from) before)
+          subst P (sym (more.others k e)) (MadeOf_kept files again (bags_made parts from) (bags_made new from) (parts k) (bags_made_kept more from) before)
     ]
 
 -- ---- the operator after it
@@ -234,7 +234,7 @@ EdgeHolds_unmade : (part : Part) (polled : Bool) (parts : List BagOf) (received 
     → (polled ≡ false) × (parts ≡ []) × (received ≡ Awaited)
 EdgeHolds_unmade Unmade polled parts received same is = is
 EdgeHolds_unmade (Made bag) polled parts received same is = cc
-EdgeHolds_unmade (Failed kind) polled parts received same is = cc
+EdgeHolds_unmade (AtFault kind) polled parts received same is = cc
 
 -- an edge from another operator than the polled one
 EdgeHolds_other : {parts new : ℕ → Part} {at : ℕ} {part : Part} → OneMore parts new at part → (polled : Bool) (edge : Edge) → ¬ (edge.from ≡ at)
@@ -257,7 +257,7 @@ EdgeHolds_sent {parts} {new} {at} {bag} more polled edge is =
       | inr e ↦ subst P (sym (sends_past at bag edge e)) (EdgeHolds_other more polled edge e is)
     ]
 
-EdgeHolds_failed : {parts new : ℕ → Part} {at : ℕ} {kind : FaultKind} → OneMore parts new at (Failed kind) → (polled : Bool) (edge : Edge)
+EdgeHolds_failed : {parts new : ℕ → Part} {at : ℕ} {kind : FaultKind} → OneMore parts new at (AtFault kind) → (polled : Bool) (edge : Edge)
     → EdgeHolds (parts edge.from) polled edge.parts edge.received → EdgeHolds (new edge.from) polled edge.parts edge.received
 EdgeHolds_failed {parts} {new} {at} more polled edge is =
     let P : Part → Type 0 = λ p. EdgeHolds p polled edge.parts edge.received in
@@ -311,46 +311,46 @@ sends_all_other {new = new} {at} {k} {bag} {operator} more apart holds =
     other_holds new (map (sends at bag) operator.inputs) (more.others k apart)
     (map-map_kept (λ edge. edge.from) (sends at bag) operator.inputs (from-sends at bag)) edges holds
 
-sent_holds : {steps : List ThinStep} {parts : ℕ → Part} {path : List ℕ} {learned : Bool} {operators : List Operator} {at : ℕ} {operator : Operator}
-    (statement : ThinStep) (bag : BagOf) → learned ≡ true → slice_get operators at ≡ Some operator → slice_get steps at ≡ Some statement
-    → IsWaiting parts at operator → StagesPart statement (Made bag) operator.staged → Holds steps parts path learned operators
-    → Holds steps (parts_with parts at (Made bag)) path learned (map (sends_all at bag) (slice_set operators at (polls outcome.Done operator)))
-sent_holds {parts = parts} {operators = operators} {at} {operator} statement bag known is does waiting stages holds =
+sent_holds : {steps : List ThinStep} {parts : ℕ → Part} {job : JobState} {at : ℕ} {operator : Operator}
+    (statement : ThinStep) (bag : BagOf) → job.learned ≡ true → slice_get job.operators at ≡ Some operator → slice_get steps at ≡ Some statement
+    → IsWaiting parts at operator → StagesPart statement (Made bag) operator.staged → Holds steps parts job
+    → Holds steps (parts_with parts at (Made bag)) (with_operators job (map (sends_all at bag) (slice_set job.operators at (polls outcome.Done operator))))
+sent_holds {parts = parts} {job} {at} {operator} statement bag known is does waiting stages holds =
     let own : Operator = polls outcome.Done operator in
     let more = one_more parts at (Made bag) waiting.unmade in
     Holds_after statement (parts_with parts at (Made bag)) (PathHolds_known known holds.begun) is does
-    (After-map operators at own (sends_all at bag) (sends_all_own bag waiting)) holds
+    (After-map job.operators at own (sends_all at bag) (sends_all_own bag waiting)) holds
     (λ from before. polled_holds statement from outcome.Done operator.staged more waiting before.wired (refl, inl (refl, refl)) stages)
     (λ k other again from apart leads before. sends_all_other more apart before)
 
 -- ---- a poll that is at fault
 
-StagesPart_failed : (statement : ThinStep) (kind : FaultKind) (staged : Option BagOf) → StagesPart statement (Failed kind) staged
+StagesPart_failed : (statement : ThinStep) (kind : FaultKind) (staged : Option BagOf) → StagesPart statement (AtFault kind) staged
 StagesPart_failed (step.Read target name count) kind staged = tt
 StagesPart_failed (step.Union target left right) kind staged = tt
 StagesPart_failed (step.Write source name) kind staged = tt
 
-failed_other : {statement : ThinStep} {from : List ℕ} {parts new : ℕ → Part} {at k : ℕ} {kind : FaultKind} {operator : Operator} → OneMore parts new at (Failed kind)
+failed_other : {statement : ThinStep} {from : List ℕ} {parts new : ℕ → Part} {at k : ℕ} {kind : FaultKind} {operator : Operator} → OneMore parts new at (AtFault kind)
     → ¬ (k ≡ at) → OperatorHolds statement from parts k operator → OperatorHolds statement from new k operator
 failed_other {new = new} {k = k} {operator = operator} more apart holds =
     other_holds new operator.inputs (more.others k apart) refl
     (λ input edge is. EdgeHolds_failed more operator.polled edge (holds.edges input edge is)) holds
 
-failed_holds : {steps : List ThinStep} {parts : ℕ → Part} {path : List ℕ} {learned : Bool} {operators : List Operator} {at : ℕ} {operator : Operator}
-    (statement : ThinStep) (kind : FaultKind) → learned ≡ true → slice_get operators at ≡ Some operator → slice_get steps at ≡ Some statement
-    → IsWaiting parts at operator → Holds steps parts path learned operators
-    → Holds steps (parts_with parts at (Failed kind)) path learned (slice_set operators at (polls (outcome.Fault kind) operator))
-failed_holds {parts = parts} {operators = operators} {at} {operator} statement kind known is does waiting holds =
-    let more = one_more parts at (Failed kind) waiting.unmade in
+failed_holds : {steps : List ThinStep} {parts : ℕ → Part} {job : JobState} {at : ℕ} {operator : Operator}
+    (statement : ThinStep) (kind : FaultKind) → job.learned ≡ true → slice_get job.operators at ≡ Some operator → slice_get steps at ≡ Some statement
+    → IsWaiting parts at operator → Holds steps parts job
+    → Holds steps (parts_with parts at (AtFault kind)) (with_operators job (slice_set job.operators at (polls (outcome.Fault kind) operator)))
+failed_holds {parts = parts} {job} {at} {operator} statement kind known is does waiting holds =
+    let more = one_more parts at (AtFault kind) waiting.unmade in
     let stages = StagesPart_failed statement kind operator.staged in
-    Holds_after statement (parts_with parts at (Failed kind)) (PathHolds_known known holds.begun) is does (After-set operators at (polls (outcome.Fault kind) operator)) holds
+    Holds_after statement (parts_with parts at (AtFault kind)) (PathHolds_known known holds.begun) is does (After-set job.operators at (polls (outcome.Fault kind) operator)) holds
     (λ from before. polled_holds statement from (outcome.Fault kind) operator.staged more waiting before.wired (refl, inl (refl, refl)) stages)
     (λ k other again from apart leads before. failed_other more apart before)
 
 -- ---- the poll of a write: it sends nothing, and no edge leads from it
 
 -- the sources of other operators: only those that assign are sources
-leads_past_write : (steps : List ThinStep) (at source : ℕ) (name : List ℕ) → IsFormed steps → slice_get steps at ≡ Some (step.Write source name)
+leads_past_write : (steps : List ThinStep) (at source : ℕ) (name : List ℕ) → IsFormedThin steps → slice_get steps at ≡ Some (step.Write source name)
     → (k : ℕ) (from : List ℕ) → slice_get (sources steps) k ≡ Some from → (inputs : List Edge) → sources_in inputs ≡ from
     → (input : ℕ) (edge : Edge) → slice_get inputs input ≡ Some edge → ¬ (edge.from ≡ at)
 leads_past_write steps at source name formed does k from leads inputs wired =
@@ -369,31 +369,32 @@ staged_other {new = new} {k = k} {operator = operator} more apart past holds =
     other_holds new operator.inputs (more.others k apart) refl
     (λ input edge is. EdgeHolds_other more operator.polled edge (past input edge is) (holds.edges input edge is)) holds
 
-staged_holds : {steps : List ThinStep} {parts : ℕ → Part} {path : List ℕ} {learned : Bool} {operators : List Operator} {at : ℕ} {operator : Operator}
-    (source : ℕ) (name : List ℕ) (bag : BagOf) → IsFormed steps → learned ≡ true → slice_get operators at ≡ Some operator → slice_get steps at ≡ Some (step.Write source name)
-    → IsWaiting parts at operator → Holds steps parts path learned operators
-    → Holds steps (parts_with parts at (Made bag)) path learned (slice_set operators at (record (polls outcome.Done operator) { staged = Some bag }))
-staged_holds {steps} {parts} {operators = operators} {at} {operator} source name bag formed known is does waiting holds =
+staged_holds : {steps : List ThinStep} {parts : ℕ → Part} {job : JobState} {at : ℕ} {operator : Operator}
+    (source : ℕ) (name : List ℕ) (bag : BagOf) → IsFormedThin steps → job.learned ≡ true → slice_get job.operators at ≡ Some operator → slice_get steps at ≡ Some (step.Write source name)
+    → IsWaiting parts at operator → Holds steps parts job
+    → Holds steps (parts_with parts at (Made bag)) (with_operators job (slice_set job.operators at (record (polls outcome.Done operator) { staged = Some bag })))
+staged_holds {steps} {parts} {job} {at} {operator} source name bag formed known is does waiting holds =
     let write : ThinStep = step.Write source name in
     let more = one_more parts at (Made bag) waiting.unmade in
     let past = leads_past_write steps at source name formed does in
-    Holds_after write (parts_with parts at (Made bag)) (PathHolds_known known holds.begun) is does (After-set operators at (record (polls outcome.Done operator) { staged = Some bag })) holds
+    Holds_after write (parts_with parts at (Made bag)) (PathHolds_known known holds.begun) is does (After-set job.operators at (record (polls outcome.Done operator) { staged = Some bag })) holds
     (λ from before. polled_holds write from outcome.Done (Some bag) more waiting before.wired (refl, inl (refl, refl)) refl)
     (λ k other again from apart leads' before. staged_other more apart (past k from leads' other.inputs before.wired) before)
 
 -- ---- any poll
 
-poll_holds : {steps : List ThinStep} {parts : ℕ → Part} {path : List ℕ} {learned : Bool} {operators : List Operator} {at : ℕ} {operator : Operator}
-    (statement : ThinStep) (made : Result BagOf FaultKind) → IsFormed steps → learned ≡ true → slice_get operators at ≡ Some operator
-    → slice_get steps at ≡ Some statement → IsWaiting parts at operator → Holds steps parts path learned operators
-    → Holds steps (parts_with parts at (part_of made)) path learned (after_poll statement at operator made operators)
+poll_holds : {steps : List ThinStep} {parts : ℕ → Part} {job : JobState} {at : ℕ} {operator : Operator}
+    (statement : ThinStep) (made : Result BagOf FaultKind) → IsFormedThin steps → job.learned ≡ true → slice_get job.operators at ≡ Some operator
+    → slice_get steps at ≡ Some statement → IsWaiting parts at operator → Holds steps parts job
+    → Holds steps (parts_with parts at (part_of made)) (with_operators job (after_poll statement at operator made job.operators))
+unfolding after_poll passed_on
 poll_holds statement (Err kind) formed known is does waiting holds = failed_holds statement kind known is does waiting holds
 poll_holds (step.Read target name count) (Ok bag) formed known is does waiting holds = sent_holds (step.Read target name count) bag known is does waiting tt holds
 poll_holds (step.Union target left right) (Ok bag) formed known is does waiting holds = sent_holds (step.Union target left right) bag known is does waiting tt holds
-poll_holds {steps} {parts} {path} {learned} {operators} {at} {operator} (step.Write source name) (Ok bag) formed known is does waiting holds =
+poll_holds {steps} {parts} {job} {at} {operator} (step.Write source name) (Ok bag) formed known is does waiting holds =
     let done : Operator = polls outcome.Done operator in
-    let P : List Operator → Type 0 = λ os. Holds steps (parts_with parts at (Made bag)) path learned os in
-    subst P (sym (set-set operators at done (record done { staged = Some bag }))) (staged_holds source name bag formed known is does waiting holds)
+    let P : List Operator → Type 0 = λ os. Holds steps (parts_with parts at (Made bag)) (with_operators job os) in
+    subst P (sym (set-set job.operators at done (record done { staged = Some bag }))) (staged_holds source name bag formed known is does waiting holds)
 
 left_of-fed_of : (received : Received) → left_of (fed_of received) ≡ left_of received
 left_of-fed_of Awaited = refl
@@ -412,42 +413,46 @@ operator_left-polls outcome operator unpolled =
     let same = sum_by-map_kept edge_left feeds operator.inputs (λ edge. left_of-fed_of edge.received) in
     omega (arith, ap (λ (b : Bool). if◌then◌else◌ {A = ℕ} b 0 1) unpolled)
 
-sent_left : (path : List ℕ) (operators : List Operator) (at : ℕ) (operator : Operator) (bag : BagOf) → slice_get operators at ≡ Some operator
-    → operator.polled ≡ false → left path (map (sends_all at bag) (slice_set operators at (polls outcome.Done operator))) + 1 ≡ left path operators
-sent_left path operators at operator bag is unpolled =
+sent_left : (job : JobState) (at : ℕ) (operator : Operator) (bag : BagOf) → slice_get job.operators at ≡ Some operator → operator.polled ≡ false
+    → actions_left (with_operators job (map (sends_all at bag) (slice_set job.operators at (polls outcome.Done operator)))) + 1 ≡ actions_left job
+sent_left job at operator bag is unpolled =
     let done : Operator = polls outcome.Done operator in
     omega (
       arith,
-      sum_by-map_kept operator_left (sends_all at bag) (slice_set operators at done) (operator_left-sends_all at bag),
-      left-set path operators at operator done is (operator_left-polls outcome.Done operator unpolled),
+      sum_by-map_kept operator_left (sends_all at bag) (slice_set job.operators at done) (operator_left-sends_all at bag),
+      left-set job at operator done is (operator_left-polls outcome.Done operator unpolled),
     )
 
-poll_left : (path : List ℕ) (operators : List Operator) (at : ℕ) (operator : Operator) (statement : ThinStep) (made : Result BagOf FaultKind)
-    → slice_get operators at ≡ Some operator → operator.polled ≡ false → left path (after_poll statement at operator made operators) + 1 ≡ left path operators
-poll_left path operators at operator statement (Err kind) is unpolled =
-    left-set path operators at operator (polls (outcome.Fault kind) operator) is (operator_left-polls (outcome.Fault kind) operator unpolled)
-poll_left path operators at operator (step.Read target name count) (Ok bag) is unpolled = sent_left path operators at operator bag is unpolled
-poll_left path operators at operator (step.Union target left right) (Ok bag) is unpolled = sent_left path operators at operator bag is unpolled
-poll_left path operators at operator (step.Write source name) (Ok bag) is unpolled =
+poll_left : (job : JobState) (at : ℕ) (operator : Operator) (statement : ThinStep) (made : Result BagOf FaultKind) → slice_get job.operators at ≡ Some operator
+    → operator.polled ≡ false → actions_left (with_operators job (after_poll statement at operator made job.operators)) + 1 ≡ actions_left job
+unfolding after_poll passed_on
+poll_left job at operator statement (Err kind) is unpolled =
+    left-set job at operator (polls (outcome.Fault kind) operator) is (operator_left-polls (outcome.Fault kind) operator unpolled)
+poll_left job at operator (step.Read target name count) (Ok bag) is unpolled = sent_left job at operator bag is unpolled
+poll_left job at operator (step.Union target left right) (Ok bag) is unpolled = sent_left job at operator bag is unpolled
+poll_left job at operator (step.Write source name) (Ok bag) is unpolled =
     let done : Operator = polls outcome.Done operator in
     let own : Operator = record done { staged = Some bag } in
-    ap (λ os. left path os + 1) (set-set operators at done own) ∙ left-set path operators at operator own is (operator_left-polls outcome.Done operator unpolled)
+    ap (λ os. actions_left (with_operators job os) + 1) (set-set job.operators at done own)
+    ∙ left-set job at operator own is (operator_left-polls outcome.Done operator unpolled)
 
-pub poll_stands : (steps : List ThinStep) (shelf shelf' : Kept) (path : List ℕ) (learned : Bool) (operators : List Operator) (at : ℕ) (operator : Operator)
-    (statement : ThinStep) (made : Result BagOf FaultKind)
-    → IsFormed steps → learned ≡ true → slice_get operators at ≡ Some operator → slice_get steps at ≡ Some statement → can_poll operator ≡ true
-    → Stands steps shelf path learned operators
+-- an operator that can be polled is polled over a shelf that may have grown, and makes what its statement does over all files that agree then
+pub poll_goes : {steps : List ThinStep} {shelf : Kept} {job : JobState} {at : ℕ} (shelf' : Kept) (statement : ThinStep) (made : Result BagOf FaultKind)
+    → IsFormedThin steps → job.learned ≡ true → slice_get steps at ≡ Some statement → (can : OperatorCan job at (λ operator. can_poll operator ≡ true))
+    → Stands steps shelf job
     → ((files : FileMap) → Agrees shelf' files → Agrees shelf files)
-    → ((files : FileMap) → Agrees shelf' files → whole files statement (bags_here operator.inputs) ≡ made)
-    → Stands steps shelf' path learned (after_poll statement at operator made operators) × (left path (after_poll statement at operator made operators) + 1 ≡ left path operators)
-poll_stands steps shelf shelf' path learned operators at operator statement made formed known is does can stands grows makes =
-    let waiting = waits can (held_at stands.holds at operator is).held in
-    let after : Stands steps shelf' path learned (after_poll statement at operator made operators) = record {
-      parts = parts_with stands.parts at (part_of made);
-      holds = poll_holds statement made formed known is does waiting stands.holds;
-      means = λ files agrees. poll_means files statement made is does waiting stands.holds (makes files agrees) (stands.means files (grows files agrees));
-    } in
-    (after, poll_left path operators at operator statement made is waiting.unpolled)
+    → ((files : FileMap) → Agrees shelf' files → whole files statement (bags_here can.operator.inputs) ≡ made)
+    → Goes steps shelf' job (with_operators job (after_poll statement at can.operator made job.operators))
+poll_goes {job = job} {at} shelf' statement made formed known does can stands grows makes =
+    let waiting = waits can.can (held_at stands.holds at can.operator can.there).held in
+    record {
+      stands = record {
+        parts = parts_with stands.parts at (part_of made);
+        holds = poll_holds statement made formed known can.there does waiting stands.holds;
+        means = λ files agrees. poll_means files statement made can.there does waiting stands.holds (makes files agrees) (stands.means files (grows files agrees));
+      };
+      counted = poll_left job at can.operator statement made can.there waiting.unpolled;
+    }
 
 -- ---- what a poll needs
 
@@ -468,14 +473,14 @@ ready_at assigned at (first ∷ steps) zero statement bags formed does sized =
 ready_at assigned at (first ∷ steps) (suc k) statement bags formed does sized =
     ready_at (assigned_after assigned at first) (at + 1) steps k statement bags (formed_next assigned at first steps formed).later does sized
 
-pub ready : (steps : List ThinStep) (shelf : Kept) (path : List ℕ) (learned : Bool) (operators : List Operator) (at : ℕ) (operator : Operator) (statement : ThinStep)
-    → IsFormed steps → slice_get operators at ≡ Some operator → slice_get steps at ≡ Some statement → can_poll operator ≡ true
-    → Stands steps shelf path learned operators → IsReady statement (bags_here operator.inputs)
-ready steps shelf path learned operators at operator statement formed is does can stands =
+pub ready : {steps : List ThinStep} {shelf : Kept} {job : JobState} {at : ℕ} (statement : ThinStep) → IsFormedThin steps → slice_get steps at ≡ Some statement
+    → (can : OperatorCan job at (λ operator. can_poll operator ≡ true)) → Stands steps shelf job → IsReady statement (bags_here can.operator.inputs)
+ready {steps} {at = at} statement formed does can stands =
+    let inputs : List Edge = can.operator.inputs in
     let leads = sources_at steps at statement does in
-    let holds = stands.holds.each at operator statement leads.0 is does leads.1 in
-    let bags = bags_of_here stands.parts operator.inputs (waits can holds).inputs in
-    let sized : length (bags_here operator.inputs) ≡ edges_of statement =
-    length-bags_of stands.parts (sources_in operator.inputs) (bags_here operator.inputs) bags ∙ ap length holds.wired
+    let holds = stands.holds.each at can.operator statement leads.0 can.there does leads.1 in
+    let bags = bags_made_here stands.parts inputs (waits can.can holds).inputs in
+    let sized : length (bags_here inputs) ≡ edges_of statement =
+    length-bags_made stands.parts (sources_in inputs) (bags_here inputs) bags ∙ ap length holds.wired
     ∙ length-sources_at [] 0 steps at statement leads.0 does leads.1 in
-    ready_at [] 0 steps at statement (bags_here operator.inputs) (formed_first steps formed) does sized
+    ready_at [] 0 steps at statement (bags_here inputs) (formed_first steps formed) does sized

@@ -1,13 +1,16 @@
--- The operators of a job, one for each statement, with the edges that lead to them and the channels on these.
-use Rattle.std.specs.Prelude.{◌<◌, ◌≤◌, ⊤, ℕ, ◌+◌, List, [], ◌∷◌, ◌++◌, length, map, slice_set, slice_index_or, sum_by, Bool, true, false, not, ◌==◌, ◌&&◌, if◌then◌else◌, Option, Some, None, Result, Ok, Err}
+-- A device of the proofs: nobody has to believe it. The operators of a job, one for each statement, with the edges that lead to
+-- them and the channels on these.
+use Rattle.std.specs.Prelude.{◌≡◌, ◌<◌, ◌≤◌, ⊤, ℕ, ◌+◌, List, [], ◌∷◌, ◌++◌, length, map, slice_set, slice_index_or, sum_by, Bool, true, false, not, ◌==◌, ◌&&◌, if◌then◌else◌, Option, Some, None, Result, Ok, Err}
 use Rattle.std.specs.List.{list_all}
 use Rattle.mit_rows.specs.Bags.{BagOf, bag_sum}
 use Rattle.mit_world.specs.Files.{FileMap}
-use Rattle.mit_engine.specs.Printed.{Write}
-use Rattle.mit_engine.specs.Rows.{read_bag}
-use Rattle.mit_engine.specs.Names.{IsLegal}
+use Rattle.mit_shelf.specs.Printed.{Write}
+use Rattle.mit_engine.specs.Reads.{integers, read_bag}
+use Rattle.mit_shelf.specs.Names.{IsLegal}
 use Rattle.mit_engine.specs.Thin.{assign, most_columns}
 use Rattle.mit_ops.specs.declared.faults.FaultKind.{FaultKind}
+use Rattle.mit_shelf.specs.declared.stop.Stop.{Stop}
+use Rattle.mit_shelf.specs.declared.stop.Stop.TheVariants as stop
 use Rattle.mit_engine.specs.declared.edges.Edge.{Edge}
 use Rattle.mit_engine.specs.declared.edges.Received.{Received}
 use Rattle.mit_engine.specs.declared.edges.Received.TheVariants.{Awaited, Here, Fed}
@@ -112,6 +115,20 @@ first_edge source = record { from = source; parts = []; received = Awaited }
 abbrev pub first_operator : List ℕ → Operator
 first_operator sources = record { inputs = map first_edge sources; polled = false; reports = []; heard = None; staged = None }
 
+-- a job at one moment: the path's channel, whether its block is learned, and the operators
+pub record JobState : Type 0 where
+  pub path : List ℕ
+  pub learned : Bool
+  pub operators : List Operator
+
+-- before its first action
+abbrev pub first_job : List ThinStep → JobState
+first_job steps = record { path = 0 ∷ []; learned = false; operators = map first_operator (sources steps) }
+
+-- the same job with other operators
+abbrev pub with_operators : JobState → List Operator → JobState
+with_operators job operators = record job { operators = operators }
+
 -- ---- the actions that are left
 
 abbrev pub left_of : Received → ℕ
@@ -130,13 +147,24 @@ unheard (Some outcome) = 0
 abbrev pub operator_left : Operator → ℕ
 operator_left operator = (if operator.polled then 0 else 1) + unheard operator.heard + sum_by edge_left operator.inputs
 
+-- the path's message, and those of the operators
+abbrev pub actions_left : JobState → ℕ
+actions_left job = length job.path + sum_by operator_left job.operators
+
 -- ---- what a statement makes of its inputs
 
 -- a read gives its file, a union the sum of its inputs, and a write the bag that it writes
 abbrev pub whole : FileMap → ThinStep → List BagOf → Result BagOf FaultKind
-whole files (step.Read target name count) bags = read_bag files name count
+whole files (step.Read target name count) bags = read_bag files name (integers count)
 whole files (step.Union target left right) bags = Ok (bag_sum bags)
 whole files (step.Write source name) bags = Ok (slice_index_or bags 0 [])
+
+-- a bag or a fault of a poll is the due one; a failed folder and want of memory say nothing of it
+abbrev pub GivesBag : Result BagOf FaultKind → Result BagOf (Stop FaultKind) → Type 0
+GivesBag due (Ok bag) = due ≡ Ok bag
+GivesBag due (Err (stop.Fault kind)) = due ≡ Err kind
+GivesBag due (Err stop.Folder) = ⊤
+GivesBag due (Err stop.NoMemory) = ⊤
 
 -- what a poll needs: a legal name and few columns for a read, and for a write its bag
 abbrev pub IsReady : ThinStep → List BagOf → Type 0
@@ -145,13 +173,13 @@ IsReady (step.Union target left right) bags = ⊤
 IsReady (step.Write source name) bags = 0 < length bags
 
 -- where the bag of this operator goes: a write stages it, and any other sends it along its edges
-abbrev pub passed_on : ThinStep → ℕ → Operator → BagOf → List Operator → List Operator
+unfoldable pub passed_on : ThinStep → ℕ → Operator → BagOf → List Operator → List Operator
 passed_on (step.Read target name count) at operator bag operators = map (sends_all at bag) operators
 passed_on (step.Union target left right) at operator bag operators = map (sends_all at bag) operators
 passed_on (step.Write source name) at operator bag operators = slice_set operators at (record operator { staged = Some bag })
 
 -- what a poll leaves of all operators: its own has reported, and passed its bag on
-abbrev pub after_poll : ThinStep → ℕ → Operator → Result BagOf FaultKind → List Operator → List Operator
+unfoldable pub after_poll : ThinStep → ℕ → Operator → Result BagOf FaultKind → List Operator → List Operator
 after_poll statement at operator (Ok bag) operators =
     passed_on statement at (polls outcome.Done operator) bag (slice_set operators at (polls outcome.Done operator))
 after_poll statement at operator (Err kind) operators = slice_set operators at (polls (outcome.Fault kind) operator)

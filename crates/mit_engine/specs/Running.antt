@@ -1,9 +1,10 @@
--- The running job: what is on offer, when it has ended, and what its channels hold at each moment.
-use Rattle.std.specs.Prelude.{◌≡◌, ◌<◌, ⊤, ◌⊎◌, ℕ, ◌+◌, List, [], ◌∷◌, ◌++◌, length, map, slice_get, sum_by, Bool, true, false, if◌then◌else◌, Option, Some, None, Ok, Err}
+-- A device of the proofs: nobody has to believe it. The running job: what is on offer, when it has ended, and what its channels
+-- hold at each moment.
+use Rattle.std.specs.Prelude.{◌≡◌, ◌<◌, ⊤, ◌⊎◌, ℕ, ◌+◌, List, [], ◌∷◌, ◌++◌, length, map, slice_get, Bool, true, false, if◌then◌else◌, Option, Some, None, Ok, Err}
 use Rattle.mit_rows.specs.Bags.{BagOf}
 use Rattle.mit_world.specs.Files.{FileMap}
-use Rattle.mit_engine.specs.Shelf.{Agrees, Kept}
-use Rattle.mit_engine.specs.Operators.{can_poll, operator_left, sources, whole}
+use Rattle.mit_shelf.specs.Shelf.{Agrees, Kept}
+use Rattle.mit_engine.specs.Operators.{JobState, actions_left, can_poll, sources, whole}
 use Rattle.mit_ops.specs.declared.faults.FaultKind.{FaultKind}
 use Rattle.mit_engine.specs.declared.edges.Edge.{Edge}
 use Rattle.mit_engine.specs.declared.edges.Received.{Received}
@@ -42,17 +43,28 @@ polls_from at [] = []
 polls_from at (operator ∷ operators) = (if can_poll operator then action.Poll at ∷ [] else []) ++ polls_from (at + 1) operators
 
 -- the path's message, then the reports by operator, the parts by operator and edge, and the polls by operator
-abbrev pub offer_of : List ℕ → Bool → List Operator → List Action
-offer_of path learned operators =
-    where_any path action.Learn ++ reports_from 0 operators ++ parts_from 0 operators ++ (if learned then polls_from 0 operators else [])
+abbrev pub offer_of : JobState → List Action
+offer_of job =
+    where_any job.path action.Learn ++ reports_from 0 job.operators ++ parts_from 0 job.operators ++ (if job.learned then polls_from 0 job.operators else [])
+
+-- an operator at a place, which can do something
+pub record OperatorCan (job : JobState) (at : ℕ) (Can : Operator → Type 0) : Type 0 where
+  pub operator : Operator
+  pub there : slice_get job.operators at ≡ Some operator
+  pub can : Can operator
+
+-- an edge with a message in its channel
+pub record HasPart (input : ℕ) (operator : Operator) : Type 0 where
+  pub edge : Edge
+  pub there : slice_get operator.inputs input ≡ Some edge
+  pub some : 0 < length edge.parts
 
 -- an action can be done now
-abbrev pub IsEnabled : List ℕ → Bool → List Operator → Action → Type 0
-IsEnabled path learned operators action.Learn = 0 < length path
-IsEnabled path learned operators (action.Hear at) = (operator : Operator) × (slice_get operators at ≡ Some operator) × (0 < length operator.reports)
-IsEnabled path learned operators (action.Take at input) =
-    (operator : Operator) × (edge : Edge) × (slice_get operators at ≡ Some operator) × (slice_get operator.inputs input ≡ Some edge) × (0 < length edge.parts)
-IsEnabled path learned operators (action.Poll at) = (learned ≡ true) × ((operator : Operator) × (slice_get operators at ≡ Some operator) × (can_poll operator ≡ true))
+abbrev pub IsEnabled : JobState → Action → Type 0
+IsEnabled job action.Learn = 0 < length job.path
+IsEnabled job (action.Hear at) = OperatorCan job at (λ operator. 0 < length operator.reports)
+IsEnabled job (action.Take at input) = OperatorCan job at (HasPart input)
+IsEnabled job (action.Poll at) = (job.learned ≡ true) × OperatorCan job at (λ operator. can_poll operator ≡ true)
 
 -- ---- the end
 
@@ -66,9 +78,8 @@ unfoldable pub verdict_from : ℕ → List Operator → Verdict
 verdict_from at [] = verdict.Complete
 verdict_from at (operator ∷ operators) = verdict_at at operator.heard (verdict_from (at + 1) operators)
 
--- the actions that are left: the path's message, and those of the operators
-abbrev pub left : List ℕ → List Operator → ℕ
-left path operators = length path + sum_by operator_left operators
+abbrev pub verdict_of : JobState → Verdict
+verdict_of job = verdict_from 0 job.operators
 
 -- ---- what the channels hold
 
@@ -76,7 +87,7 @@ left path operators = length path + sum_by operator_left operators
 pub data Part : Type 0 where
   Unmade : Part
   Made : BagOf → Part
-  Failed : FaultKind → Part
+  AtFault : FaultKind → Part
 
 -- a report is in its channel, or it was heard
 abbrev pub Reports : Outcome → List Outcome → Option Outcome → Type 0
@@ -85,12 +96,12 @@ Reports outcome reports heard = ((reports ≡ outcome ∷ []) × (heard ≡ None
 abbrev pub ReportsPart : Part → Bool → List Outcome → Option Outcome → Type 0
 ReportsPart Unmade polled reports heard = (polled ≡ false) × (reports ≡ []) × (heard ≡ None)
 ReportsPart (Made bag) polled reports heard = (polled ≡ true) × Reports outcome.Done reports heard
-ReportsPart (Failed kind) polled reports heard = (polled ≡ true) × Reports (outcome.Fault kind) reports heard
+ReportsPart (AtFault kind) polled reports heard = (polled ≡ true) × Reports (outcome.Fault kind) reports heard
 
 -- an edge holds nothing before its source has made a bag; then the bag is in its channel, or received, or fed to its target's poll
 abbrev pub EdgeHolds : Part → Bool → List BagOf → Received → Type 0
 EdgeHolds Unmade polled parts received = (polled ≡ false) × (parts ≡ []) × (received ≡ Awaited)
-EdgeHolds (Failed kind) polled parts received = (polled ≡ false) × (parts ≡ []) × (received ≡ Awaited)
+EdgeHolds (AtFault kind) polled parts received = (polled ≡ false) × (parts ≡ []) × (received ≡ Awaited)
 EdgeHolds (Made bag) polled parts received =
     ((polled ≡ false) × (parts ≡ bag ∷ []) × (received ≡ Awaited))
     ⊎ ((polled ≡ false) × (parts ≡ []) × (received ≡ Here bag))
@@ -100,7 +111,7 @@ EdgeHolds (Made bag) polled parts received =
 abbrev pub StagesPart : ThinStep → Part → Option BagOf → Type 0
 StagesPart (step.Write source name) (Made bag) staged = staged ≡ Some bag
 StagesPart (step.Write source name) Unmade staged = ⊤
-StagesPart (step.Write source name) (Failed kind) staged = ⊤
+StagesPart (step.Write source name) (AtFault kind) staged = ⊤
 StagesPart (step.Read target name count) part staged = ⊤
 StagesPart (step.Union target left right) part staged = ⊤
 
@@ -117,11 +128,11 @@ PathHolds parts path learned =
     ((learned ≡ false) × (path ≡ 0 ∷ []) × ((at : ℕ) → parts at ≡ Unmade)) ⊎ ((learned ≡ true) × (path ≡ []))
 
 -- the channels hold what the parts say
-pub record Holds (steps : List ThinStep) (parts : ℕ → Part) (path : List ℕ) (learned : Bool) (operators : List Operator) : Type 0 where
-  pub sized : length operators ≡ length steps
-  pub begun : PathHolds parts path learned
+pub record Holds (steps : List ThinStep) (parts : ℕ → Part) (job : JobState) : Type 0 where
+  pub sized : length job.operators ≡ length steps
+  pub begun : PathHolds parts job.path job.learned
   pub each : (at : ℕ) (operator : Operator) (statement : ThinStep) (from : List ℕ)
-      → slice_get operators at ≡ Some operator → slice_get steps at ≡ Some statement → slice_get (sources steps) at ≡ Some from
+      → slice_get job.operators at ≡ Some operator → slice_get steps at ≡ Some statement → slice_get (sources steps) at ≡ Some from
       → OperatorHolds statement from parts at operator
 
 -- the bags that these operators have made, where all have
@@ -129,26 +140,31 @@ abbrev pub with_bag : Part → Option (List BagOf) → Option (List BagOf)
 with_bag (Made bag) (Some bags) = Some (bag ∷ bags)
 with_bag (Made bag) None = None
 with_bag Unmade bags = None
-with_bag (Failed kind) bags = None
+with_bag (AtFault kind) bags = None
 
-abbrev pub bags_of : (ℕ → Part) → List ℕ → Option (List BagOf)
-bags_of parts [] = Some []
-bags_of parts (from ∷ later) = with_bag (parts from) (bags_of parts later)
+abbrev pub bags_made : (ℕ → Part) → List ℕ → Option (List BagOf)
+bags_made parts [] = Some []
+bags_made parts (from ∷ later) = with_bag (parts from) (bags_made parts later)
 
 -- what an operator has made is what its statement makes of its sources' bags
 abbrev pub MadeOf : FileMap → ThinStep → Option (List BagOf) → Part → Type 0
 MadeOf files statement bags Unmade = ⊤
 MadeOf files statement None (Made bag) = ⊥
 MadeOf files statement (Some bags) (Made bag) = whole files statement bags ≡ Ok bag
-MadeOf files statement None (Failed kind) = ⊥
-MadeOf files statement (Some bags) (Failed kind) = whole files statement bags ≡ Err kind
+MadeOf files statement None (AtFault kind) = ⊥
+MadeOf files statement (Some bags) (AtFault kind) = whole files statement bags ≡ Err kind
 
 abbrev pub Means : FileMap → List ThinStep → (ℕ → Part) → Type 0
 Means files steps parts = (at : ℕ) (statement : ThinStep) (from : List ℕ)
-    → slice_get steps at ≡ Some statement → slice_get (sources steps) at ≡ Some from → MadeOf files statement (bags_of parts from) (parts at)
+    → slice_get steps at ≡ Some statement → slice_get (sources steps) at ≡ Some from → MadeOf files statement (bags_made parts from) (parts at)
 
 -- the job stands for some parts, which mean the same over all files that agree with the shelf
-pub record Stands (steps : List ThinStep) (shelf : Kept) (path : List ℕ) (learned : Bool) (operators : List Operator) : Type 0 where
+pub record Stands (steps : List ThinStep) (shelf : Kept) (job : JobState) : Type 0 where
   pub parts : ℕ → Part
-  pub holds : Holds steps parts path learned operators
+  pub holds : Holds steps parts job
   pub means : (files : FileMap) → Agrees shelf files → Means files steps parts
+
+-- an action keeps this, and one action fewer is left
+pub record Goes (steps : List ThinStep) (shelf : Kept) (before job : JobState) : Type 0 where
+  pub stands : Stands steps shelf job
+  pub counted : actions_left job + 1 ≡ actions_left before

@@ -2,9 +2,9 @@
 use Rattle.std.specs.Prelude.{◌≡◌, ◌<◌, ◌≤◌, ◌+◌, ◌*◌, ⊤, ◌⊎◌, ℕ, List, [], ◌∷◌, ◌++◌, length, slice_get, slice_set, slice_index_or, sum_by, Some, Result, Ok, Err, if◌then◌else◌, nat_lt}
 use Rattle.mit_rows.specs.Bags.{BagOf, bag_sum}
 use Rattle.mit_world.specs.Files.{FileMap}
-use Rattle.mit_engine.specs.Names.{IsLegal}
-use Rattle.mit_engine.specs.Printed.{Write}
-use Rattle.mit_engine.specs.Rows.{read_bag}
+use Rattle.mit_shelf.specs.Names.{IsLegal}
+use Rattle.mit_shelf.specs.Printed.{Write}
+use Rattle.mit_engine.specs.Reads.{integers, read_bag}
 use Rattle.mit_ops.specs.declared.faults.FaultKind.{FaultKind}
 use Rattle.mit_engine.specs.declared.thin.ThinStep.{ThinStep}
 use Rattle.mit_engine.specs.declared.thin.ThinStep.TheVariants as step
@@ -37,8 +37,8 @@ FormedFrom columns (step.Union target left right ∷ steps) =
     × FormedFrom (columns_after columns target count) steps
 FormedFrom columns (step.Write source name ∷ steps) = IsLegal name × (source < length columns) × FormedFrom columns steps
 
-abbrev pub IsFormed : List ThinStep → Type 0
-IsFormed steps = (length steps ≤ most_statements) × FormedFrom [] steps
+abbrev pub IsFormedThin : List ThinStep → Type 0
+IsFormedThin steps = (length steps ≤ most_statements) × FormedFrom [] steps
 
 -- ---- the step-by-step interpreter
 
@@ -64,7 +64,7 @@ after_read later statement (Err kind) = Faulted statement kind
 unfoldable pub exec_from : FileMap → ℕ → List BagOf → List Write → List ThinStep → Ending
 exec_from files statement store writes [] = Finished writes
 exec_from files statement store writes (step.Read target name count ∷ steps) =
-    after_read (λ bag. exec_from files (statement + 1) (assign store target bag) writes steps) statement (read_bag files name count)
+    after_read (λ bag. exec_from files (statement + 1) (assign store target bag) writes steps) statement (read_bag files name (integers count))
 exec_from files statement store writes (step.Union target left right ∷ steps) =
     exec_from files (statement + 1) (assign store target (bag_sum (bag_in store left ∷ bag_in store right ∷ []))) writes steps
 exec_from files statement store writes (step.Write source name ∷ steps) =

@@ -1,35 +1,42 @@
 //! The running job of a thin script, and its actions: deliveries of messages and polls of operators.
-ghost use Rattle.std.specs.Prelude.{◌≡◌, ◌≤◌, ◌<◌, ◌+◌, ◌++◌, ◌∷◌, [], false, true, Result, IfErr, IfOk, IfSome, OnOk, drop, map, slice_get, vec_len};
-ghost use Rattle.std.specs.FinMap as fin;
+ghost use Rattle.std.specs.Prelude.{◌≡◌, ◌≤◌, ◌<◌, ◌++◌, true, Result, IfErr, IfOk, IfSome, OnOk, drop, length, slice_get, vec_len};
 ghost use Rattle.mit_rows.specs.Bags.{BagOf};
 ghost use Rattle.mit_world.specs.Files.{FileMap};
-ghost use Rattle.mit_world.specs.Outside.{Rose};
-ghost use Rattle.mit_engine.specs.Job.{IfFolderEnds};
-ghost use Rattle.mit_engine.specs.Operators.{IsReady, after_poll, bags_here, first_operator, passed_on, sources, whole};
+ghost use Rattle.mit_world.specs.Outside.{IfFailed, Rose};
+ghost use Rattle.mit_engine.specs.Operators.{IsReady, after_poll, bags_here, first_job, passed_on, whole, with_operators, writes_of};
 ghost use Rattle.mit_ops.specs.declared.faults.FaultKind.{FaultKind};
-ghost use Rattle.mit_engine.specs.Running.{IsEnabled, Stands, edges_from, left, offer_of, parts_from, polls_from, reports_from, verdict_from};
-ghost use Rattle.mit_engine.specs.Shelf.{Agrees};
-ghost use Rattle.mit_engine.specs.Thin.{IsFormed};
+ghost use Rattle.mit_shelf.specs.Printed.{published};
+ghost use Rattle.mit_engine.specs.Running.{Goes, IsEnabled, Stands, edges_from, offer_of, parts_from, polls_from, reports_from, verdict_of};
+ghost use Rattle.mit_shelf.specs.Shelf.{Agrees};
+ghost use Rattle.mit_engine.specs.Thin.{IsFormedThin};
 
 use crate::channel::Channel;
 use crate::edges::Edge;
-use crate::operators::{Operator, Outcome, operators_of, send};
-use crate::polls::{PollStop, whole};
-use crate::shelf::Shelf;
-use crate::thin::{Stop, ThinStep};
+use crate::operators::{Operator, Outcome, files_of, operators_of, send};
+use crate::polls::whole;
+use crate::thin::ThinStep;
 use mit_ops::FaultKind;
 use mit_rows::Bag;
-use mit_world::Folder;
+use mit_shelf::{Shelf, Stop};
+use mit_world::{Files, Folder, OutsideStop};
 use std::alloc::{AllocError, Global};
+use std::marker::Model;
 
-/// What holds the job together: what it read, the path's channel, and its operators.
+/// What holds the job together: the path's channel, and its operators.
 #[derive(Drop)]
 pub(crate) struct Job {
-    pub(crate) shelf: Shelf,
     /// The block that is to be learned.
     path: Channel<u32>,
     learned: bool,
-    pub(crate) operators: Vec<Operator>,
+    operators: Vec<Operator>,
+}
+
+impl Model for Job {
+    ghost use Rattle.mit_engine.specs.Operators.{JobState};
+
+    ghost Value = { JobState };
+
+    ghost view = { λ job. record { path = job.path; learned = job.learned; operators = job.operators.items } };
 }
 
 /// One action of the job.
@@ -59,15 +66,12 @@ pub(crate) enum Verdict {
 impl Job {
     /// The job of these statements, before its first action: the path's block waits in its channel.
     pub(crate) fn of(alloc: Global, steps: &[ThinStep]) -> Result<Job, AllocError>
-        requires { IsFormed steps.now }
-        ensures shelf { IfOk result (λ job. job.shelf ≡ record { found = fin.empty; absent = fin.empty }) }
-        ensures path { IfOk result (λ job. (job.path ≡ 0 ∷ []) × (job.learned ≡ false)) }
-        ensures operators { IfOk result (λ job. job.operators.items ≡ map first_operator (sources steps.now)) }
+        requires { IsFormedThin steps.now }
+        ensures { IfOk result (λ job. job ≡ first_job steps.now) }
     {
         let mut path = Channel::new(alloc);
         path.put(0)?;
         Ok(Job {
-            shelf: Shelf::new(alloc),
             path,
             learned: false,
             operators: operators_of(alloc, steps)?,
@@ -76,7 +80,7 @@ impl Job {
 
     /// How far the job has come: the first operator that is not heard Done decides.
     pub(crate) fn verdict(&self) -> Verdict
-        ensures { result ≡ verdict_from 0 self.now.operators.items }
+        ensures { result ≡ verdict_of self.now }
     {
         for (at, operator) in self.operators.iter().enumerate() {
             match operator.heard {
@@ -91,7 +95,7 @@ impl Job {
     /// The actions that can be done now, in rising order of their numbers: the path's delivery, those of reports by
     /// operator, those of parts by operator and input, and the polls by operator.
     pub(crate) fn offer(&self, alloc: Global) -> Result<Vec<Action>, AllocError>
-        ensures { IfOk result (λ offer. offer.items ≡ offer_of self.now.path self.now.learned self.now.operators.items) }
+        ensures { IfOk result (λ offer. offer.items ≡ offer_of self.now) }
     {
         let mut offer = Vec::new(alloc);
         if !self.path.is_empty() {
@@ -111,16 +115,16 @@ impl Job {
         alloc: Global,
         action: Action,
         steps: &[ThinStep],
+        shelf: &mut Shelf,
         folder: &mut F,
-    ) -> Result<(), Stop>
-        requires formed { IsFormed steps.now }
-        requires stands { Stands steps.now self.old.shelf self.old.path self.old.learned self.old.operators.items }
-        requires enabled { IsEnabled self.old.path self.old.learned self.old.operators.items action }
-        ensures stands { OnOk result (Stands steps.now self.new.shelf self.new.path self.new.learned self.new.operators.items) }
-        ensures counted { OnOk result (left self.new.path self.new.operators.items + 1 ≡ left self.old.path self.old.operators.items) }
-        ensures grows { (files : FileMap) → Agrees self.new.shelf files → Agrees self.old.shelf files }
-        ensures agrees { IfSome (F.files folder.old) (λ files. Agrees self.old.shelf files → Agrees self.new.shelf files) }
-        ensures failed { IfErr result (λ stop. IfFolderEnds stop (Rose (F.faults folder.old) (F.faults folder.new))) }
+    ) -> Result<(), OutsideStop>
+        requires formed { IsFormedThin steps.now }
+        requires stands { Stands steps.now shelf.old self.old }
+        requires enabled { IsEnabled self.old action }
+        ensures goes { OnOk result (Goes steps.now shelf.new self.old self.new) }
+        ensures grows { (files : FileMap) → Agrees shelf.new files → Agrees shelf.old files }
+        ensures agrees { IfSome (F.files folder.old) (λ files. Agrees shelf.old files → Agrees shelf.new files) }
+        ensures failed { IfErr result (λ stop. IfFailed stop (Rose (F.faults folder.old) (F.faults folder.new))) }
         ensures told { F.files folder.new ≡ F.files folder.old }
         ensures count { F.faults folder.old ≤ F.faults folder.new }
     {
@@ -139,17 +143,22 @@ impl Job {
             }
             Action::Poll(at) => {
                 let step = &steps[at];
-                self.poll(alloc, at, step, folder)
+                self.poll(alloc, at, step, shelf, folder)
             }
         }
     }
 
+    /// The files of all writes, in the order of the statements.
+    pub(crate) fn files(&self, alloc: Global, steps: &[ThinStep]) -> Result<Files, AllocError>
+        requires { length self.now.operators ≡ length steps.now }
+        ensures { IfOk result (λ files. files ≡ published (writes_of steps.now self.now.operators)) }
+    {
+        files_of(alloc, steps, &self.operators)
+    }
+
     // Learns the block at the head of the path's channel.
     fn learn(&mut self)
-        ensures path { self.new.path ≡ drop 1 self.old.path }
-        ensures learned { self.new.learned ≡ true }
-        ensures shelf { self.new.shelf ≡ self.old.shelf }
-        ensures operators { self.new.operators ≡ self.old.operators }
+        ensures { self.new ≡ record { path = drop 1 self.old.path; learned = true; operators = self.old.operators } }
     {
         let _ = self.path.take();
         self.learned = true;
@@ -161,56 +170,55 @@ impl Job {
         alloc: Global,
         at: usize,
         step: &ThinStep,
+        shelf: &mut Shelf,
         folder: &mut F,
-    ) -> Result<(), Stop>
-        requires within { at < vec_len self.old.operators }
-        requires ready { IfSome (slice_get self.old.operators.items at) (λ operator. IsReady step.now (bags_here operator.inputs)) }
-        ensures polled { OnOk result (IfSome (slice_get self.old.operators.items at) (λ operator. (made : Result BagOf FaultKind)
-            × (self.new.operators.items ≡ after_poll step.now at operator made self.old.operators.items)
-            × ((files : FileMap) → Agrees self.new.shelf files → whole files step.now (bags_here operator.inputs) ≡ made))) }
-        ensures path { OnOk result ((self.new.path ≡ self.old.path) × (self.new.learned ≡ self.old.learned)) }
-        ensures grows { (files : FileMap) → Agrees self.new.shelf files → Agrees self.old.shelf files }
-        ensures agrees { IfSome (F.files folder.old) (λ files. Agrees self.old.shelf files → Agrees self.new.shelf files) }
-        ensures failed { IfErr result (λ stop. IfFolderEnds stop (Rose (F.faults folder.old) (F.faults folder.new))) }
+    ) -> Result<(), OutsideStop>
+        requires within { at < length self.old.operators }
+        requires ready { IfSome (slice_get self.old.operators at) (λ operator. IsReady step.now (bags_here operator.inputs)) }
+        ensures polled { OnOk result (IfSome (slice_get self.old.operators at) (λ operator. (made : Result BagOf FaultKind)
+            × (self.new ≡ with_operators self.old (after_poll step.now at operator made self.old.operators))
+            × ((files : FileMap) → Agrees shelf.new files → whole files step.now (bags_here operator.inputs) ≡ made))) }
+        ensures grows { (files : FileMap) → Agrees shelf.new files → Agrees shelf.old files }
+        ensures agrees { IfSome (F.files folder.old) (λ files. Agrees shelf.old files → Agrees shelf.new files) }
+        ensures failed { IfErr result (λ stop. IfFailed stop (Rose (F.faults folder.old) (F.faults folder.new))) }
         ensures told { F.files folder.new ≡ F.files folder.old }
         ensures count { F.faults folder.old ≤ F.faults folder.new }
     {
         let inputs = self.operators[at].inputs.feed(alloc)?;
-        match whole(alloc, &mut self.shelf, step, inputs, folder) {
+        match whole(alloc, shelf, step, inputs, folder) {
             Ok(bag) => {
                 self.operators[at].report(Outcome::Done)?;
-                self.pass_on(alloc, at, step, bag)?;
+                pass_on(alloc, &mut self.operators, at, step, bag)?;
                 Ok(())
             }
-            Err(PollStop::Fault(kind)) => {
+            Err(Stop::Fault(kind)) => {
                 self.operators[at].report(Outcome::Fault(kind))?;
                 Ok(())
             }
-            Err(PollStop::Folder) => Err(Stop::Folder),
-            Err(PollStop::NoMemory) => Err(Stop::NoMemory),
+            Err(Stop::Folder) => Err(OutsideStop::Failed),
+            Err(Stop::NoMemory) => Err(OutsideStop::NoMemory),
         }
     }
+}
 
-    // Stages the bag of a write, or sends that of any other operator.
-    fn pass_on(
-        &mut self,
-        alloc: Global,
-        at: usize,
-        step: &ThinStep,
-        bag: Bag,
-    ) -> Result<(), AllocError>
-        requires within { at < vec_len self.old.operators }
-        ensures kept { OnOk result (IfSome (slice_get self.old.operators.items at) (λ operator.
-            self.new.operators.items ≡ passed_on step.now at operator bag self.old.operators.items)) }
-        ensures path { OnOk result ((self.new.path ≡ self.old.path) × (self.new.learned ≡ self.old.learned)) }
-        ensures shelf { self.new.shelf ≡ self.old.shelf }
-    {
-        if let ThinStep::Write { .. } = step {
-            self.operators[at].staged = Some(bag);
-            return Ok(());
-        }
-        send(alloc, &mut self.operators, at, bag)
+// Stages the bag of a write, or sends that of any other operator.
+#[tactic(auto, unfolding(crate::specs::Operators::passed_on))]
+fn pass_on(
+    alloc: Global,
+    operators: &mut Vec<Operator>,
+    at: usize,
+    step: &ThinStep,
+    bag: Bag,
+) -> Result<(), AllocError>
+    requires { at < vec_len operators.old }
+    ensures { OnOk result (IfSome (slice_get operators.old.items at) (λ operator.
+        operators.new.items ≡ passed_on step.now at operator bag operators.old.items)) }
+{
+    if let ThinStep::Write { .. } = step {
+        operators[at].staged = Some(bag);
+        return Ok(());
     }
+    send(alloc, operators, at, bag)
 }
 
 // The deliveries of reports.

@@ -2,16 +2,15 @@
 ghost use Rattle.std.specs.Prelude.{◌≡◌, ◌≤◌, ◌++◌, ◌∷◌, [], true, IfOk, OnOk, drop, length, map, take, vec_len};
 ghost use Rattle.std.specs.FinMap as fin;
 ghost use Rattle.mit_engine.specs.Operators.{Fits, assigned_after, can_poll, first_operator, hears, sends_all, sources, sources_of, writes_of};
-ghost use Rattle.mit_engine.specs.Printed.{bag_text, published, published_onto};
-ghost use Rattle.mit_engine.specs.Thin.{IsFormed};
+ghost use Rattle.mit_shelf.specs.Printed.{bag_text, published, published_onto};
+ghost use Rattle.mit_engine.specs.Thin.{IsFormedThin};
 
 use crate::channel::Channel;
 use crate::edges::Inputs;
-use crate::names::Name;
-use crate::printed::print_rows;
 use crate::thin::ThinStep;
 use mit_ops::FaultKind;
 use mit_rows::Bag;
+use mit_shelf::{Name, print_rows};
 use mit_world::Files;
 use std::alloc::{AllocError, Global};
 
@@ -77,7 +76,7 @@ impl Operator {
 
 /// The operators of a script, of which nothing has happened.
 pub(crate) fn operators_of(alloc: Global, steps: &[ThinStep]) -> Result<Vec<Operator>, AllocError>
-    requires { IsFormed steps.now }
+    requires { IsFormedThin steps.now }
     ensures { IfOk result (λ operators. operators.items ≡ map first_operator (sources steps.now)) }
 {
     let mut assigned: Vec<usize> = Vec::new(alloc);
@@ -141,7 +140,7 @@ pub(crate) fn files_of(
 }
 
 // Writes the file of an operator, where it is a write that has staged its bag.
-#[tactic(auto, unfolding(crate::specs::Operators::writes_of, crate::specs::Printed::published_onto))]
+#[tactic(auto, unfolding(crate::specs::Operators::writes_of, mit_shelf::specs::Printed::published_onto))]
 fn write_staged(
     alloc: Global,
     written: &mut Files,

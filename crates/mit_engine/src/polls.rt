@@ -2,40 +2,19 @@
 ghost use Rattle.std.specs.Prelude.{◌≡◌, ◌≢◌, ◌≤◌, IfErr, IfSome};
 ghost use Rattle.mit_world.specs.Files.{FileMap};
 ghost use Rattle.mit_world.specs.Outside.{Rose};
-ghost use Rattle.mit_engine.specs.Job.{GivesBag, IfFolderHalts};
-ghost use Rattle.mit_engine.specs.Names.{IsLegal};
 ghost use Rattle.mit_engine.specs.Operators as spec;
-ghost use Rattle.mit_engine.specs.Rows.{bag_of_rows, read_bag, rows_of};
-ghost use Rattle.mit_engine.specs.Shelf.{Agrees};
-ghost use Rattle.mit_engine.specs.declared.polls.PollStop.TheVariants as halt;
+ghost use Rattle.mit_engine.specs.Reads.{bag_of_rows, integers, read_bag};
+ghost use Rattle.mit_shelf.specs.Names.{IsLegal};
+ghost use Rattle.mit_shelf.specs.Rows.{rows_of};
+ghost use Rattle.mit_shelf.specs.Shelf.{Agrees};
+ghost use Rattle.mit_shelf.specs.Stops.{IfFolder};
 
-use crate::names::Name;
-use crate::rows::{RowsRefused, parse_rows};
-use crate::shelf::{FetchStop, Shelf};
 use crate::thin::ThinStep;
 use mit_ops::FaultKind;
-use mit_rows::Bag;
+use mit_rows::{Bag, ColType, MAX_COLUMNS};
+use mit_shelf::{FetchFault, Name, RowsRefused, Shelf, Stop, parse_rows};
 use mit_world::Folder;
-use std::alloc::{AllocError, Global};
-
-/// Why a poll made no bag.
-#[derive(Drop)]
-pub(crate) enum PollStop {
-    /// The statement is at fault.
-    Fault(FaultKind),
-    /// The folder failed.
-    Folder,
-    /// Memory ran out.
-    NoMemory,
-}
-
-impl From<AllocError> for PollStop {
-    ghost from_gives = { λ _ stop. stop ≡ halt.NoMemory };
-
-    fn from(_: AllocError) -> PollStop {
-        PollStop::NoMemory
-    }
-}
+use std::alloc::Global;
 
 /// The bag that a statement makes of its inputs: a read that of its file, a union their sum, and a write its own input.
 pub(crate) fn whole<F: Folder>(
@@ -44,12 +23,12 @@ pub(crate) fn whole<F: Folder>(
     step: &ThinStep,
     mut inputs: Vec<Bag>,
     folder: &mut F,
-) -> Result<Bag, PollStop>
+) -> Result<Bag, Stop<FaultKind>>
     requires { spec.IsReady step.now inputs.items }
-    ensures bag { (files : FileMap) → Agrees shelf.new files → GivesBag (spec.whole files step.now inputs.items) result }
+    ensures bag { (files : FileMap) → Agrees shelf.new files → spec.GivesBag (spec.whole files step.now inputs.items) result }
     ensures grows { (files : FileMap) → Agrees shelf.new files → Agrees shelf.old files }
     ensures agrees { IfSome (F.files folder.old) (λ files. Agrees shelf.old files → Agrees shelf.new files) }
-    ensures failed { IfErr result (λ stop. IfFolderHalts stop (Rose (F.faults folder.old) (F.faults folder.new))) }
+    ensures failed { IfErr result (λ stop. IfFolder stop (Rose (F.faults folder.old) (F.faults folder.new))) }
     ensures told { F.files folder.new ≡ F.files folder.old }
     ensures count { F.faults folder.old ≤ F.faults folder.new }
 {
@@ -67,40 +46,38 @@ fn read<F: Folder>(
     name: &Name,
     columns: u8,
     folder: &mut F,
-) -> Result<Bag, PollStop>
+) -> Result<Bag, Stop<FaultKind>>
     requires legal { IsLegal name.now }
     requires few { columns ≤ 16 }
-    ensures bag { (files : FileMap) → Agrees shelf.new files → GivesBag (read_bag files name.now columns) result }
+    ensures bag { (files : FileMap) → Agrees shelf.new files → spec.GivesBag (read_bag files name.now (integers columns)) result }
     ensures grows { (files : FileMap) → Agrees shelf.new files → Agrees shelf.old files }
     ensures agrees { IfSome (F.files folder.old) (λ files. Agrees shelf.old files → Agrees shelf.new files) }
-    ensures failed { IfErr result (λ stop. IfFolderHalts stop (Rose (F.faults folder.old) (F.faults folder.new))) }
+    ensures failed { IfErr result (λ stop. IfFolder stop (Rose (F.faults folder.old) (F.faults folder.new))) }
     ensures told { F.files folder.new ≡ F.files folder.old }
     ensures count { F.faults folder.old ≤ F.faults folder.new }
 {
-    match shelf.fetch(name.as_str(), folder) {
-        Ok(()) => match shelf.text(name.as_str()) {
-            Some(bytes) => bag_of(alloc, bytes, columns),
-            None => Err(PollStop::Fault(FaultKind::NoFile)),
-        },
-        Err(FetchStop::BadName) => Err(PollStop::Fault(FaultKind::BadName)),
-        Err(FetchStop::NoFile) => Err(PollStop::Fault(FaultKind::NoFile)),
-        Err(FetchStop::Folder) => Err(PollStop::Folder),
-        Err(FetchStop::NoMemory) => Err(PollStop::NoMemory),
+    match shelf.fetch(name.bytes(), folder) {
+        Ok(place) => bag_of(alloc, shelf.file_at(place), columns),
+        Err(Stop::Fault(FetchFault::BadName)) => Err(Stop::Fault(FaultKind::BadName)),
+        Err(Stop::Fault(FetchFault::NoFile)) => Err(Stop::Fault(FaultKind::NoFile)),
+        Err(Stop::Folder) => Err(Stop::Folder),
+        Err(Stop::NoMemory) => Err(Stop::NoMemory),
     }
 }
 
 // The bag of a file's rows.
-fn bag_of(alloc: Global, bytes: &[u8], columns: u8) -> Result<Bag, PollStop>
+fn bag_of(alloc: Global, bytes: &[u8], columns: u8) -> Result<Bag, Stop<FaultKind>>
     requires { columns ≤ 16 }
-    ensures bag { GivesBag (bag_of_rows (rows_of bytes.now columns)) result }
-    ensures own { IfErr result (λ stop. stop ≢ PollStop.Folder) }
+    ensures bag { spec.GivesBag (bag_of_rows (rows_of bytes.now (integers columns))) result }
+    ensures own { IfErr result (λ stop. stop ≢ Stop.Folder) }
 {
-    match parse_rows(alloc, bytes, columns) {
+    let types = [ColType::Int; MAX_COLUMNS];
+    match parse_rows(alloc, bytes, &types[..usize::from(columns)]) {
         Ok(rows) => match Bag::from_rows(rows) {
             Ok(bag) => Ok(bag),
-            Err(_) => Err(PollStop::NoMemory),
+            Err(_) => Err(Stop::NoMemory),
         },
-        Err(RowsRefused::BadRow(number)) => Err(PollStop::Fault(FaultKind::BadRow(number))),
-        Err(RowsRefused::NoMemory) => Err(PollStop::NoMemory),
+        Err(RowsRefused::BadRow(number)) => Err(Stop::Fault(FaultKind::BadRow(number))),
+        Err(RowsRefused::NoMemory) => Err(Stop::NoMemory),
     }
 }

@@ -1,22 +1,21 @@
 //! Thin scripts, their statements, and the job that runs them.
 ghost use Rattle.std.specs.Prelude.{◌≡◌, ◌≤◌, ◌+◌, IfErr, IfOk, IfSome, OnOk};
 ghost use Rattle.mit_world.specs.Files.{FileMap};
-ghost use Rattle.mit_world.specs.Outside.{Rose};
-ghost use Rattle.mit_engine.specs.Job.{AnswersOver, IfFolderEnds, IfFolderStops};
+ghost use Rattle.mit_world.specs.Outside.{IfFailed, Rose};
+ghost use Rattle.mit_engine.specs.Job.{AnswersEnding};
 ghost use Rattle.mit_engine.specs.Picks.{GrowsBy, GrowsWithin};
-ghost use Rattle.mit_engine.specs.Running.{Stands, left, verdict_from};
-ghost use Rattle.mit_engine.specs.Shelf.{Agrees};
-ghost use Rattle.mit_engine.specs.Thin.{IsFormed, actions_of};
+ghost use Rattle.mit_engine.specs.Running.{Goes, Stands, verdict_of};
+ghost use Rattle.mit_shelf.specs.Shelf.{Agrees};
+ghost use Rattle.mit_shelf.specs.Stops.{IfFolder};
+ghost use Rattle.mit_engine.specs.Thin.{IsFormedThin, actions_of, exec};
 ghost use Rattle.mit_engine.specs.declared.job.Verdict.TheVariants as verdict;
-ghost use Rattle.mit_engine.specs.declared.thin.Stop.TheVariants as ending;
 
 use crate::job::{Job, Verdict};
-use crate::names::Name;
-use crate::operators::files_of;
 use crate::schedule::Schedule;
 use mit_ops::ScriptFault;
-use mit_world::{Files, Folder};
-use std::alloc::{AllocError, Global};
+use mit_shelf::{Name, Shelf, Stop};
+use mit_world::{Files, Folder, OutsideStop};
+use std::alloc::Global;
 use std::marker::Model;
 
 /// A statement of a thin script. Variables are numbered by their first assignment in the text, from 0.
@@ -83,38 +82,24 @@ pub struct Done {
     pub actions: u64,
 }
 
-/// Why a run did not come to its end.
-#[derive(Clone, Copy, Debug, PartialEq, Eq)]
-pub enum Stop {
-    /// The script is at fault.
-    Fault(ScriptFault),
-    /// The folder failed.
-    Folder,
-    /// Memory ran out.
-    NoMemory,
-}
-
-impl From<AllocError> for Stop {
-    ghost from_gives = { λ _ stop. stop ≡ ending.NoMemory };
-
-    fn from(_: AllocError) -> Stop {
-        Stop::NoMemory
-    }
-}
-
-/// Runs a thin script as a job of one partition: each action is picked by the schedule from those on offer. Each file
-/// name is read at most once.
+/// Runs a thin script as a job of one partition: each action is picked by the schedule from those on offer. What is read
+/// is read through the shelf, so that each file name is asked for once.
 pub fn run_thin<F: Folder, S: Schedule>(
     alloc: Global,
     script: &Thin,
+    shelf: &mut Shelf,
     folder: &mut F,
     schedule: &mut S,
-) -> Result<Done, Stop>
-    requires { IsFormed script.now }
+) -> Result<Done, Stop<ScriptFault>>
+    requires { IsFormedThin script.now }
 
-    // Whatever the picks are, the answer is the interpreter's: its files, blocks and actions, or its first fault.
-    ensures answer { AnswersOver script.now (F.files folder.old) result }
-    ensures failed { IfErr result (λ stop. IfFolderStops stop (Rose (F.faults folder.old) (F.faults folder.new))) }
+    // Whatever the picks are, the answer is the interpreter's over all files that agree with the shelf then.
+    ensures answer { (files : FileMap) → Agrees shelf.new files → AnswersEnding script.now (exec files script.now) result }
+
+    // Files that agree with the shelf now agreed with it before; those that the folder tells still agree.
+    ensures grows { (files : FileMap) → Agrees shelf.new files → Agrees shelf.old files }
+    ensures agrees { IfSome (F.files folder.old) (λ files. Agrees shelf.old files → Agrees shelf.new files) }
+    ensures failed { IfErr result (λ stop. IfFolder stop (Rose (F.faults folder.old) (F.faults folder.new))) }
 
     // The log grows by one pick for each action, and never by more than the actions of a job that comes to its end.
     ensures picked { IfOk result (λ done. GrowsBy done.actions (S.log schedule.old) (S.log schedule.new)) }
@@ -131,12 +116,13 @@ pub fn run_thin<F: Folder, S: Schedule>(
     let mut actions = 0;
     'turns: loop {
         match job.verdict() {
-            Verdict::Running => match turn(alloc, &mut job, steps, folder, schedule) {
+            Verdict::Running => match turn(alloc, &mut job, steps, shelf, folder, schedule) {
                 Ok(()) => actions += 1,
-                Err(stop) => return Err(stop),
+                Err(OutsideStop::Failed) => return Err(Stop::Folder),
+                Err(OutsideStop::NoMemory) => return Err(Stop::NoMemory),
             },
             Verdict::Complete => {
-                let Ok(files) = files_of(alloc, steps, &job.operators) else {
+                let Ok(files) = job.files(alloc, steps) else {
                     return Err(Stop::NoMemory);
                 };
                 return Ok(Done {
@@ -161,23 +147,23 @@ fn turn<F: Folder, S: Schedule>(
     alloc: Global,
     job: &mut Job,
     steps: &[ThinStep],
+    shelf: &mut Shelf,
     folder: &mut F,
     schedule: &mut S,
-) -> Result<(), Stop>
-    requires formed { IsFormed steps.now }
-    requires stands { Stands steps.now job.old.shelf job.old.path job.old.learned job.old.operators.items }
-    requires running { verdict_from 0 job.old.operators.items ≡ verdict.Running }
-    ensures stands { OnOk result (Stands steps.now job.new.shelf job.new.path job.new.learned job.new.operators.items) }
-    ensures counted { OnOk result (left job.new.path job.new.operators.items + 1 ≡ left job.old.path job.old.operators.items) }
+) -> Result<(), OutsideStop>
+    requires formed { IsFormedThin steps.now }
+    requires stands { Stands steps.now shelf.old job.old }
+    requires running { verdict_of job.old ≡ verdict.Running }
+    ensures goes { OnOk result (Goes steps.now shelf.new job.old job.new) }
     ensures picked { OnOk result (GrowsBy 1 (S.log schedule.old) (S.log schedule.new)) }
     ensures bounded { GrowsWithin 1 (S.log schedule.old) (S.log schedule.new) }
-    ensures grows { (files : FileMap) → Agrees job.new.shelf files → Agrees job.old.shelf files }
-    ensures agrees { IfSome (F.files folder.old) (λ files. Agrees job.old.shelf files → Agrees job.new.shelf files) }
-    ensures failed { IfErr result (λ stop. IfFolderEnds stop (Rose (F.faults folder.old) (F.faults folder.new))) }
+    ensures grows { (files : FileMap) → Agrees shelf.new files → Agrees shelf.old files }
+    ensures agrees { IfSome (F.files folder.old) (λ files. Agrees shelf.old files → Agrees shelf.new files) }
+    ensures failed { IfErr result (λ stop. IfFailed stop (Rose (F.faults folder.old) (F.faults folder.new))) }
     ensures told { F.files folder.new ≡ F.files folder.old }
     ensures count { F.faults folder.old ≤ F.faults folder.new }
 {
     let offer = job.offer(alloc)?;
     let chosen = schedule.pick(offer.len() as u64)?;
-    job.act(alloc, offer[chosen as usize], steps, folder)
+    job.act(alloc, offer[chosen as usize], steps, shelf, folder)
 }

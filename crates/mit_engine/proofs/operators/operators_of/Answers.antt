@@ -35,7 +35,7 @@ loop-at-preserved c =
     record {
       operators = rw c.in_ok-note.ensures (
           made_more now later (first_operator (sources_of assigned first) ∷ []) c.args.steps.now at first before c.push.new.self.items _ refl
-          (omega arith) c.index-steps-at.is c.loop-at.invariant.operators (c.in_ok-push.ensures.items ∙ ap (λ (o : Operator). before ++ o ∷ []) made));
+          (omega arith) c.index-steps-at.is c.loop-at.invariant.operators (◌∙◌ {A = List Operator} c.in_ok-push.ensures.items (ap (λ (o : Operator). before ++ o ∷ []) made)));
       formed = rw c.in_ok-note.ensures (formed_at_hand assigned c.args.steps.now at first (omega arith) c.index-steps-at.is c.loop-at.invariant.formed).later;
     }
 

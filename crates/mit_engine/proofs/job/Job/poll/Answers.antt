@@ -4,17 +4,17 @@ use Rattle.std.proofs.lemmas.List.{get_or-set_same, length-set, set-set}
 use Rattle.std.proofs.lemmas.Option.{slice_get-get_or}
 use Rattle.mit_rows.specs.Bags.{BagOf}
 use Rattle.mit_world.specs.Files.{FileMap}
-use Rattle.mit_engine.specs.Job.{GivesBag}
-use Rattle.mit_engine.specs.Operators.{after_poll, bags_here, feeds, passed_on, polls, whole}
-use Rattle.mit_engine.specs.Shelf.{Agrees, Kept}
+use Rattle.mit_engine.specs.Operators.{GivesBag, JobState, after_poll, bags_here, feeds, passed_on, polls, whole, with_operators}
+use Rattle.mit_shelf.specs.Shelf.{Agrees, Kept}
 use Rattle.mit_engine.specs.declared.edges.Edge.{Edge}
 use Rattle.mit_ops.specs.declared.faults.FaultKind.{FaultKind}
 use Rattle.mit_engine.specs.declared.operators.Operator.{Operator}
 use Rattle.mit_engine.specs.declared.operators.Outcome.{Outcome}
 use Rattle.mit_engine.specs.declared.operators.Outcome.TheVariants as outcome
-use Rattle.mit_engine.specs.declared.polls.PollStop.{PollStop}
-use Rattle.mit_engine.specs.declared.polls.PollStop.TheVariants as halt
+use Rattle.mit_shelf.specs.declared.stop.Stop.{Stop}
+use Rattle.mit_shelf.specs.declared.stop.Stop.TheVariants as stop
 use Rattle.mit_engine.specs.declared.thin.ThinStep.{ThinStep}
+use Rattle.mit_engine.proofs.ActLemmas.{Polls}
 use Rattle.mit_engine.proofs.job.Job.poll.Goals as goal
 
 -- an operator that is fed, and then reports, is polled
@@ -29,66 +29,61 @@ polled operators at operator fed reported inputs told within inputs_are fed_is r
     set-set operators at (record operator { inputs = inputs }) reported
     ∙ ap (slice_set operators at) (reported_is ∙ ap (λ (o : Operator). record o { polled = true; reports = o.reports ++ told ∷ [] }) is)
 
--- what holds of the operator at a place
-at_place : (P : Operator → Type 0) (operators : List Operator) (at : ℕ) (operator : Operator) → slice_get operators at ≡ Some operator → P operator
-    → IfSome (slice_get operators at) P
-at_place P operators at operator is holds = subst (λ (o : Option Operator). IfSome o P) (sym is) holds
-
--- its bag is passed on
+-- and its bag is passed on
 passed : (statement : ThinStep) (operators after all : List Operator) (at : ℕ) (operator : Operator) (bag : BagOf)
-    → at < length operators → after ≡ slice_set operators at operator
-    → IfSome (slice_get after at) (λ o. all ≡ passed_on statement at o bag after) → all ≡ passed_on statement at operator bag (slice_set operators at operator)
+    → at < length operators → after ≡ slice_set operators at (polls outcome.Done operator)
+    → IfSome (slice_get after at) (λ o. all ≡ passed_on statement at o bag after) → all ≡ after_poll statement at operator (Ok bag) operators
+unfolding after_poll
 passed statement operators after all at operator bag within is kept =
-    let there : slice_get (slice_set operators at operator) at ≡ Some operator =
-    slice_get-get_or (slice_set operators at operator) at operator (omega (arith, length-set operators at operator)) ∙ ap Some (get_or-set_same operators at operator operator within) in
+    let done : Operator = polls outcome.Done operator in
+    let there : slice_get (slice_set operators at done) at ≡ Some done =
+    slice_get-get_or (slice_set operators at done) at done (omega (arith, length-set operators at done)) ∙ ap Some (get_or-set_same operators at done done within) in
     let moved = subst (λ (os : List Operator). IfSome (slice_get os at) (λ o. all ≡ passed_on statement at o bag os)) is kept in
-    subst (λ (o : Option Operator). IfSome o (λ x. all ≡ passed_on statement at x bag (slice_set operators at operator))) there moved
+    subst (λ (o : Option Operator). IfSome o (λ x. all ≡ passed_on statement at x bag (slice_set operators at done))) there moved
 
--- what a poll leaves, where its statement has made a bag
-bag_made : (statement : ThinStep) (operators after all : List Operator) (at : ℕ) (operator : Operator) (bags : List BagOf) (bag : BagOf) (shelf shelf' : Kept)
-    → at < length operators → operator ≡ get_or operators at operator → bags ≡ bags_here operator.inputs → after ≡ slice_set operators at (polls outcome.Done operator)
-    → IfSome (slice_get after at) (λ o. all ≡ passed_on statement at o bag after) → shelf' ≡ shelf
-    → ((files : FileMap) → Agrees shelf files → whole files statement bags ≡ Ok bag)
-    → IfSome (slice_get operators at) (λ o. (made : Result BagOf FaultKind) × (all ≡ after_poll statement at o made operators)
-    × ((files : FileMap) → Agrees shelf' files → whole files statement (bags_here o.inputs) ≡ made))
-bag_made statement operators after all at operator bags bag shelf shelf' within is fed left kept same gives =
-    at_place _ operators at operator (slice_get-get_or operators at operator within ∙ ap Some (sym is)) (
-      Ok bag,
-      passed statement operators after all at (polls outcome.Done operator) bag within left kept,
-      λ files agrees. ap (whole files statement) (sym fed) ∙ gives files (subst (λ (k : Kept). Agrees k files) same agrees),
-    )
+-- or it is at fault
+stopped : (statement : ThinStep) (operators after : List Operator) (at : ℕ) (operator : Operator) (kind : FaultKind)
+    → after ≡ slice_set operators at (polls (outcome.Fault kind) operator) → after ≡ after_poll statement at operator (Err kind) operators
+unfolding after_poll
+stopped statement operators after at operator kind is = is
 
--- the same where it is at fault
-fault_made : (statement : ThinStep) (operators after : List Operator) (at : ℕ) (operator : Operator) (bags : List BagOf) (halted : PollStop) (kind : FaultKind) (shelf : Kept)
-    → at < length operators → operator ≡ get_or operators at operator → bags ≡ bags_here operator.inputs → after ≡ slice_set operators at (polls (outcome.Fault kind) operator)
-    → halted ≡ halt.Fault kind → ((files : FileMap) → Agrees shelf files → GivesBag (whole files statement bags) (Err halted))
-    → IfSome (slice_get operators at) (λ o. (made : Result BagOf FaultKind) × (after ≡ after_poll statement at o made operators)
-    × ((files : FileMap) → Agrees shelf files → whole files statement (bags_here o.inputs) ≡ made))
-fault_made statement operators after at operator bags halted kind shelf within is fed left fault gives =
-    at_place _ operators at operator (slice_get-get_or operators at operator within ∙ ap Some (sym is)) (
-      Err kind,
-      left,
-      λ files agrees. ap (whole files statement) (sym fed) ∙ subst (λ (h : PollStop). GivesBag (whole files statement bags) (Err h)) fault (gives files agrees),
-    )
+-- what the code makes of the job that it sees is what a poll tells
+settled : {job view : JobState} {at : ℕ} {operator : Operator} {bags : List BagOf} {all : List Operator} (statement : ThinStep) (shelf : Kept) (made : Result BagOf FaultKind)
+    → view ≡ job → at < length view.operators → operator ≡ get_or view.operators at operator → bags ≡ bags_here operator.inputs
+    → all ≡ after_poll statement at operator made view.operators → ((files : FileMap) → Agrees shelf files → whole files statement bags ≡ made)
+    → Polls shelf statement at job (with_operators view all) (slice_get job.operators at)
+settled {job} {view} {at} {operator} {bags} {all} statement shelf made seen within is fed left gives =
+    let there : slice_get view.operators at ≡ Some operator = slice_get-get_or view.operators at operator within ∙ ap Some (sym is) in
+    let P : Option Operator → Type 0 = Polls shelf statement at view (with_operators view all) in
+    let now : P (Some operator) = (made, ap (with_operators view) left, λ files agrees. ap (whole files statement) (sym fed) ∙ gives files agrees) in
+    let Q : JobState → Type 0 = λ j. Polls shelf statement at j (with_operators view all) (slice_get j.operators at) in
+    subst Q seen (subst P (sym there) now)
+
+-- a fault that was answered is what the statement makes
+fault_given : (statement : ThinStep) (bags : List BagOf) (shelf : Kept) (halted : Stop FaultKind) (kind : FaultKind) → halted ≡ stop.Fault kind
+    → ((files : FileMap) → Agrees shelf files → GivesBag (whole files statement bags) (Err halted)) → (files : FileMap) → Agrees shelf files
+    → whole files statement bags ≡ Err kind
+fault_given statement bags shelf halted kind is gives files agrees =
+    let P : Stop FaultKind → Type 0 = λ h. GivesBag (whole files statement bags) (Err h) in subst P is (gives files agrees)
 
 pub returns-in_ok-pass_on-in-Ok-clause-polled : goal.returns-in_ok-pass_on-in-Ok-clause-polled
 returns-in_ok-pass_on-in-Ok-clause-polled g c =
-    let operators = c.args.self.now.operators.items in
-    let operator = c.index_mut.result.now in
-    let within : c.args.at < length operators = omega (arith, c.args.self.now.operators.ok.0, c.requires.within) in
-    bag_made c.args.step.now operators _ c.pass_on.new.self.operators.items c.args.at operator c.in_ok-inputs.inputs.items c.in-Ok.bag c.whole.new.shelf c.pass_on.new.self.shelf
-    within c.index_mut.ensures.value c.in_ok-inputs.ensures.fed
+    let operators : List Operator = c.self.inside.operators.items in
+    let operator : Operator = c.index_mut.result.now in
+    let within : c.args.at < length operators = omega (arith, ap (λ (job : JobState). length job.operators) c.self.view_is, c.requires.within) in
+    settled c.args.step.now c.whole.new.shelf (Ok c.in-Ok.bag) c.self.view_is within c.index_mut.ensures.value c.in_ok-inputs.ensures.fed
+    (passed c.args.step.now operators _ c.pass_on.new.operators.items c.args.at operator c.in-Ok.bag within
     (polled operators c.args.at operator c.index_mut-in-Ok.result.now c.report.new.self c.feed.new.self outcome.Done within c.in_ok-inputs.ensures.edges
     c.index_mut-in-Ok.ensures.value c.in_ok-report-in-Ok.ensures)
-    c.in_ok-pass_on-in-Ok.ensures.kept c.in_ok-pass_on-in-Ok.ensures.shelf c.in-Ok.ensures.bag
+    c.in_ok-pass_on-in-Ok.ensures) c.in-Ok.ensures.bag
 
 pub returns-in_ok-report-in-Err-Fault-clause-polled : goal.returns-in_ok-report-in-Err-Fault-clause-polled
 returns-in_ok-report-in-Err-Fault-clause-polled g c =
-    let operators = c.args.self.now.operators.items in
-    let operator = c.index_mut.result.now in
-    let within : c.args.at < length operators = omega (arith, c.args.self.now.operators.ok.0, c.requires.within) in
-    fault_made c.args.step.now operators _ c.args.at operator c.in_ok-inputs.inputs.items c.in-Err-Fault.field-0 c.in-Err-Fault.kind c.whole.new.shelf
-    within c.index_mut.ensures.value c.in_ok-inputs.ensures.fed
+    let operators : List Operator = c.self.inside.operators.items in
+    let operator : Operator = c.index_mut.result.now in
+    let within : c.args.at < length operators = omega (arith, ap (λ (job : JobState). length job.operators) c.self.view_is, c.requires.within) in
+    settled c.args.step.now c.whole.new.shelf (Err c.in-Err-Fault.kind) c.self.view_is within c.index_mut.ensures.value c.in_ok-inputs.ensures.fed
+    (stopped c.args.step.now operators _ c.args.at operator c.in-Err-Fault.kind
     (polled operators c.args.at operator c.index_mut-in-Err-Fault.result.now c.report-in-Err-Fault.new.self c.feed.new.self (outcome.Fault c.in-Err-Fault.kind) within
-    c.in_ok-inputs.ensures.edges c.index_mut-in-Err-Fault.ensures.value (rw c.in-Err-Fault.kind-is at c.in_ok-report-in-Err-Fault.ensures))
-    c.in-Err-Fault.field-0-is c.in-Err-Fault.ensures.bag
+    c.in_ok-inputs.ensures.edges c.index_mut-in-Err-Fault.ensures.value (rw c.in-Err-Fault.kind-is at c.in_ok-report-in-Err-Fault.ensures)))
+    (fault_given c.args.step.now c.in_ok-inputs.inputs.items c.whole.new.shelf c.in-Err-Fault.field-0 c.in-Err-Fault.kind c.in-Err-Fault.field-0-is c.in-Err-Fault.ensures.bag)

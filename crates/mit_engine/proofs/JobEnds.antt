@@ -4,11 +4,11 @@ use Rattle.std.specs.Prelude.{suc, ◌⊎◌, Option, Some, None, Ok, Err, Bool,
 use Rattle.std.proofs.lemmas.List.{append-nil, get_or-map, length-map, map-append, map-set}
 use Rattle.mit_rows.specs.Bags.{BagOf, bag_sum}
 use Rattle.mit_world.specs.Files.{FileMap}
-use Rattle.mit_engine.specs.Printed.{Write}
-use Rattle.mit_engine.specs.Shelf.{Agrees, Kept}
-use Rattle.mit_engine.specs.Thin.{Finished, Faulted, IsFormed, after_read, assign, bag_in, exec, exec_from}
-use Rattle.mit_engine.specs.Operators.{Fits, assigned_after, assigner, sources, sources_from, sources_of, staged_write, whole, writes_of}
-use Rattle.mit_engine.specs.Running.{Holds, MadeOf, Means, Part, Unmade, Made, Failed, ReportsPart, StagesPart, Stands, bags_of, verdict_from, with_bag}
+use Rattle.mit_shelf.specs.Printed.{Write}
+use Rattle.mit_shelf.specs.Shelf.{Agrees, Kept}
+use Rattle.mit_engine.specs.Thin.{Finished, Faulted, IsFormedThin, after_read, assign, bag_in, exec, exec_from}
+use Rattle.mit_engine.specs.Operators.{Fits, JobState, assigned_after, assigner, sources, sources_from, sources_of, staged_write, whole, writes_of}
+use Rattle.mit_engine.specs.Running.{Holds, MadeOf, Means, Part, Unmade, Made, AtFault, ReportsPart, StagesPart, Stands, bags_made, verdict_from, verdict_of, with_bag}
 use Rattle.mit_ops.specs.declared.faults.FaultKind.{FaultKind}
 use Rattle.mit_engine.specs.declared.job.Verdict.TheVariants as verdict
 use Rattle.mit_engine.specs.declared.operators.Operator.{Operator}
@@ -30,13 +30,13 @@ AreAll bags all = (bags ≡ None) ⊎ (bags ≡ Some all)
 
 all_with : (part : Part) (bags : Option (List BagOf)) (all : List BagOf) → AreAll bags all → AreAll (with_bag part bags) (bag_of part ∷ all)
 all_with Unmade bags all are = inl refl
-all_with (Failed kind) bags all are = inl refl
+all_with (AtFault kind) bags all are = inl refl
 all_with (Made bag) None all are = inl refl
 all_with (Made bag) (Some bags) all are = elim are [ inl e ↦ inl cc | inr e ↦ inr cc ]
 
-all_made : (parts : ℕ → Part) (from : List ℕ) → AreAll (bags_of parts from) (bags_at parts from)
+all_made : (parts : ℕ → Part) (from : List ℕ) → AreAll (bags_made parts from) (bags_at parts from)
 all_made parts [] = inr refl
-all_made parts (first ∷ from) = all_with (parts first) (bags_of parts from) (bags_at parts from) (all_made parts from)
+all_made parts (first ∷ from) = all_with (parts first) (bags_made parts from) (bags_at parts from) (all_made parts from)
 
 -- what is made is made of all bags
 made_of_all : (files : FileMap) (statement : ThinStep) (part : Part) (bags : Option (List BagOf)) (all : List BagOf) → AreAll bags all
@@ -44,8 +44,8 @@ made_of_all : (files : FileMap) (statement : ThinStep) (part : Part) (bags : Opt
 made_of_all files statement Unmade bags all are made = tt
 made_of_all files statement (Made bag) None all are made = absurd made
 made_of_all files statement (Made bag) (Some bags) all are made = elim are [ inl e ↦ cc | inr e ↦ cc ]
-made_of_all files statement (Failed kind) None all are made = absurd made
-made_of_all files statement (Failed kind) (Some bags) all are made = elim are [ inl e ↦ cc | inr e ↦ cc ]
+made_of_all files statement (AtFault kind) None all are made = absurd made
+made_of_all files statement (AtFault kind) (Some bags) all are made = elim are [ inl e ↦ cc | inr e ↦ cc ]
 
 -- the store has the bag of the operator that assigned the variable last
 bag_read : (parts : ℕ → Part) (assigned : List ℕ) (variable : ℕ) → variable < length assigned
@@ -98,21 +98,20 @@ along files parts assigned at (statement ∷ steps) (operator ∷ operators) for
     (along files parts (assigned_after assigned at statement) (at + 1) steps operators rest.later (omega (arith, sized))
     (λ place later from one a b c. subst (λ (n : ℕ). Does files parts n later from one) (omega arith) (does (suc place) later from one a b c)))
 
-all_do : (files : FileMap) (parts : ℕ → Part) (steps : List ThinStep) (path : List ℕ) (learned : Bool) (operators : List Operator)
-    → Holds steps parts path learned operators → Means files steps parts → AllDo files parts 0 steps (sources steps) operators
-all_do files parts steps path learned operators holds means place statement from operator a b c =
+all_do : {steps : List ThinStep} {parts : ℕ → Part} {job : JobState} (files : FileMap) → Holds steps parts job → Means files steps parts
+    → AllDo files parts 0 steps (sources steps) job.operators
+all_do {parts = parts} files holds means place statement from operator a b c =
     let held = holds.each place operator statement from c a b in
     subst (λ (n : ℕ). Does files parts n statement from operator) (omega arith) (record {
-      made = made_of_all files statement (parts place) (bags_of parts from) (bags_at parts from) (all_made parts from) (means place statement from a b);
+      made = made_of_all files statement (parts place) (bags_made parts from) (bags_at parts from) (all_made parts from) (means place statement from a b);
       reports = held.reports;
       staged = held.staged;
     })
 
-all_along : (steps : List ThinStep) (shelf : Kept) (path : List ℕ) (learned : Bool) (operators : List Operator) (files : FileMap)
-    → IsFormed steps → (stands : Stands steps shelf path learned operators) → Agrees shelf files → Along files stands.parts [] 0 steps operators
-all_along steps shelf path learned operators files formed stands agrees =
-    along files stands.parts [] 0 steps operators (formed_first steps formed) stands.holds.sized
-    (all_do files stands.parts steps path learned operators stands.holds (stands.means files agrees))
+all_along : {steps : List ThinStep} {shelf : Kept} {job : JobState} (files : FileMap) → IsFormedThin steps → (stands : Stands steps shelf job) → Agrees shelf files
+    → Along files stands.parts [] 0 steps job.operators
+all_along {steps} {job = job} files formed stands agrees =
+    along files stands.parts [] 0 steps job.operators (formed_first steps formed) stands.holds.sized (all_do files stands.holds (stands.means files agrees))
 
 -- ---- one statement
 
@@ -199,30 +198,32 @@ completes {files} {parts} writes (next assigned at statement steps operator oper
 
 faults : {files : FileMap} {parts : ℕ → Part} {assigned : List ℕ} {at : ℕ} {steps : List ThinStep} {operators : List Operator} (writes : List Write) (place : ℕ) (kind : FaultKind)
     → Along files parts assigned at steps operators → verdict_from at operators ≡ verdict.Fault place kind
-    → (place < at + length steps) × (exec_from files (at + 1) (bags_at parts assigned) writes steps ≡ Faulted (place + 1) kind)
+    → exec_from files (at + 1) (bags_at parts assigned) writes steps ≡ Faulted (place + 1) kind
 unfolding verdict_from
 faults writes place kind (ended assigned at) is = cc
 faults {files} {parts} writes place kind (next assigned at statement steps operator operators fits does later) is =
     elim (fault_first at operator.heard (verdict_from (at + 1) operators) place kind is) [
-      | inl done ↦ let ends = faults (writes_next writes statement (bag_of (parts at))) place kind later done.1 in
-          (omega (arith, ends.0), exec_done files parts assigned at statement steps operator writes fits does done.0 ∙ ends.1)
-      | inr fault ↦ (
-        omega (arith, fault.1),
-        exec_failed files parts assigned at statement steps operator writes kind does fault.0 ∙ ap (λ number. Faulted (number + 1) kind) fault.1,
-      )
+      | inl done ↦
+          exec_done files parts assigned at statement steps operator writes fits does done.0 ∙ faults (writes_next writes statement (bag_of (parts at))) place kind later done.1
+      | inr fault ↦ exec_failed files parts assigned at statement steps operator writes kind does fault.0 ∙ ap (λ number. Faulted (number + 1) kind) fault.1
     ]
 
 -- where each operator is heard Done, the interpreter comes to its end with the staged writes
-pub complete_ends : (steps : List ThinStep) (shelf : Kept) (path : List ℕ) (learned : Bool) (operators : List Operator) (files : FileMap)
-    → IsFormed steps → Stands steps shelf path learned operators → Agrees shelf files → verdict_from 0 operators ≡ verdict.Complete
-    → exec files steps ≡ Finished (writes_of steps operators)
-complete_ends steps shelf path learned operators files formed stands agrees is =
-    completes [] (all_along steps shelf path learned operators files formed stands agrees) is
+pub complete_ends : {steps : List ThinStep} {shelf : Kept} {job : JobState} (files : FileMap) → IsFormedThin steps → Stands steps shelf job → Agrees shelf files
+    → verdict_of job ≡ verdict.Complete → exec files steps ≡ Finished (writes_of steps job.operators)
+complete_ends files formed stands agrees is = completes [] (all_along files formed stands agrees) is
 
 -- where the first operator that is not heard Done is at fault, the interpreter stops at its statement
-pub fault_ends : (steps : List ThinStep) (shelf : Kept) (path : List ℕ) (learned : Bool) (operators : List Operator) (files : FileMap) (at : ℕ) (kind : FaultKind)
-    → IsFormed steps → Stands steps shelf path learned operators → Agrees shelf files → verdict_from 0 operators ≡ verdict.Fault at kind
-    → (at < length steps) × (exec files steps ≡ Faulted (at + 1) kind)
-fault_ends steps shelf path learned operators files at kind formed stands agrees is =
-    let ends = faults [] at kind (all_along steps shelf path learned operators files formed stands agrees) is in
-    (omega (arith, ends.0), ends.1)
+pub fault_ends : {steps : List ThinStep} {shelf : Kept} {job : JobState} (files : FileMap) (at : ℕ) (kind : FaultKind) → IsFormedThin steps → Stands steps shelf job
+    → Agrees shelf files → verdict_of job ≡ verdict.Fault at kind → exec files steps ≡ Faulted (at + 1) kind
+fault_ends files at kind formed stands agrees is = faults [] at kind (all_along files formed stands agrees) is
+
+-- its statement is one of them
+pub fault_within : (at : ℕ) (operators : List Operator) (place : ℕ) (kind : FaultKind) → verdict_from at operators ≡ verdict.Fault place kind
+    → place < at + length operators
+unfolding verdict_from
+fault_within at [] place kind is = cc
+fault_within at (first ∷ operators) place kind is = elim (fault_first at first.heard (verdict_from (at + 1) operators) place kind is) [
+  | inl done ↦ omega (arith, fault_within (at + 1) operators place kind done.1)
+  | inr fault ↦ omega (arith, fault.1)
+]

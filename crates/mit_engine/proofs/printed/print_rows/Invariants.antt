@@ -1,7 +1,0 @@
-use Rattle.std.proofs.Common.{Some, take}
-use Rattle.mit_engine.specs.Printed.{bag_text}
-use Rattle.mit_engine.proofs.PrintFacts.{Printed}
-use Rattle.mit_engine.proofs.printed.print_rows.Given as goal
-
-abbrev pub invariant-loop-row : goal.invariant-loop-row
-invariant-loop-row l = Printed (λ v. Some v.items) l.writer (bag_text (take l.row-index l.rows))
