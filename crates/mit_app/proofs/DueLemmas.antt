@@ -1,4 +1,4 @@
--- At most one verdict is due over the same words and files.
+-- One verdict is due over the same words and files, and not more.
 use Rattle.std.proofs.Common.{◌≡◌, ◌∙◌, ℕ, List, [], ◌∷◌, ap, sym, subst, refl, inl, inr}
 use Rattle.std.specs.Prelude.{◌⊎◌, Bool, true, false, codes, Option, Some, None, Result, Ok, Err}
 use Rattle.std.specs.FinMap as fin
@@ -9,15 +9,22 @@ use Rattle.mit_script.specs.declared.tree.Script.{Script}
 use Rattle.mit_script.specs.declared.typed.CheckCode.{CheckCode}
 use Rattle.mit_parse.specs.Places.{IsRefusedAt}
 use Rattle.mit_script.specs.Grammar.{IsSpelled}
-use Rattle.mit_app.specs.Due.{Accepted, Due, DueFor, Found, IsCommand, IsFound, IsUsage, Misspelled, Missing, Rejected, TextIs, Usage, Verdict, verdict_for}
+use Rattle.mit_engine.specs.Thin.{actions_of}
+use Rattle.mit_engine.specs.declared.thin.ThinStep.{ThinStep}
+use Rattle.mit_app.specs.Due.{Accepted, AreActions, Due, DueFor, Found, IsCommand, IsFound, IsFoundIn, IsUsage, Misspelled, Missing, Rejected, RunsIn, Verdict, verdict_for}
+use Rattle.mit_app.specs.Ends.{Counted}
+use Rattle.mit_app.specs.ThinScript.{thin_steps}
 use Rattle.mit_app.specs.declared.words.Task.{Task}
 use Rattle.mit_app.specs.declared.words.Task.TheVariants.{Run, Check}
 
--- a text spells at most one script, or is refused at one place
+-- a text spells one script, or is refused at one place
 pub record IsRead : Type 0 where
   pub script : (text : List ℕ) (one other : Script) → IsSpelled text one → IsSpelled text other → one ≡ other
   pub place : (text : List ℕ) (one other : ℕ) → IsRefusedAt text one → IsRefusedAt text other → one ≡ other
   pub either : (text : List ℕ) (script : Script) (place : ℕ) → IsSpelled text script → IsRefusedAt text place → ⊥
+  pub read : (text : List ℕ) → ((script : Script) × IsSpelled text script) ⊎ ((place : ℕ) × IsRefusedAt text place)
+
+-- ---- what is found
 
 -- what is checked of a script that is another one by name only
 moved : (text : List ℕ) (one other : Script) (outcome : Result (List VarType) (ℕ × CheckCode)) → IsRead → IsSpelled text one → IsSpelled text other → checked other ≡ outcome
@@ -33,57 +40,50 @@ same_rejection s t c d e = ap (λ (p : ℕ × CheckCode). Rejected p.0 p.1) (sam
 no_rejection : (fault : ℕ × CheckCode) (types : List VarType) → ◌≡◌ {A = Result (List VarType) (ℕ × CheckCode)} (Err fault) (Ok types) → ⊥
 no_rejection fault types e = cc
 
-text_once : (text : List ℕ) (a b : Found) → IsRead → TextIs text a → TextIs text b → a ≡ b
-text_once text Missing b read x y = absurd x
-text_once text (Misspelled p) Missing read x y = absurd y
-text_once text (Misspelled p) (Misspelled q) read x y = ap Misspelled (read.place text p q x y)
-text_once text (Misspelled p) (Rejected s c) read x y = absurd (read.either text y.0 p y.1 x)
-text_once text (Misspelled p) (Accepted s) read x y = absurd (read.either text s p y.1 x)
-text_once text (Rejected s c) Missing read x y = absurd y
-text_once text (Rejected s c) (Misspelled q) read x y = absurd (read.either text x.0 q x.1 y)
-text_once text (Rejected s c) (Rejected t d) read x y = same_rejection s t c d (sym x.2 ∙ moved text x.0 y.0 (Err (t, d)) read x.1 y.1 y.2)
-text_once text (Rejected s c) (Accepted t) read x y = absurd (no_rejection (s, c) y.0 (sym x.2 ∙ moved text x.0 t (Ok y.0) read x.1 y.1 y.2))
-text_once text (Accepted s) Missing read x y = absurd y
-text_once text (Accepted s) (Misspelled q) read x y = absurd (read.either text s q x.1 y)
-text_once text (Accepted s) (Rejected t d) read x y = absurd (no_rejection (t, d) x.0 (sym (sym x.2 ∙ moved text s y.0 (Err (t, d)) read x.1 y.1 y.2)))
-text_once text (Accepted s) (Accepted t) read x y = ap Accepted (read.script text s t x.1 y.1)
+found_once : (look : Option (List ℕ)) (a b : Found) → IsRead → IsFoundIn look a → IsFoundIn look b → a ≡ b
+found_once None Missing Missing read x y = refl
+found_once None Missing (Misspelled q) read x y = absurd y
+found_once None Missing (Rejected t d) read x y = absurd y
+found_once None Missing (Accepted t) read x y = absurd y
+found_once None (Misspelled p) b read x y = absurd x
+found_once None (Rejected s c) b read x y = absurd x
+found_once None (Accepted s) b read x y = absurd x
+found_once (Some text) Missing b read x y = absurd x
+found_once (Some text) (Misspelled p) Missing read x y = absurd y
+found_once (Some text) (Misspelled p) (Misspelled q) read x y = ap Misspelled (read.place text p q x y)
+found_once (Some text) (Misspelled p) (Rejected s c) read x y = absurd (read.either text y.0 p y.1 x)
+found_once (Some text) (Misspelled p) (Accepted s) read x y = absurd (read.either text s p y.1 x)
+found_once (Some text) (Rejected s c) Missing read x y = absurd y
+found_once (Some text) (Rejected s c) (Misspelled q) read x y = absurd (read.either text x.0 q x.1 y)
+found_once (Some text) (Rejected s c) (Rejected t d) read x y = same_rejection s t c d (sym x.2 ∙ moved text x.0 y.0 (Err (t, d)) read x.1 y.1 y.2)
+found_once (Some text) (Rejected s c) (Accepted t) read x y = absurd (no_rejection (s, c) y.0 (sym x.2 ∙ moved text x.0 t (Ok y.0) read x.1 y.1 y.2))
+found_once (Some text) (Accepted s) Missing read x y = absurd y
+found_once (Some text) (Accepted s) (Misspelled q) read x y = absurd (read.either text s q x.1 y)
+found_once (Some text) (Accepted s) (Rejected t d) read x y = absurd (no_rejection (t, d) x.0 (sym (sym x.2 ∙ moved text s y.0 (Err (t, d)) read x.1 y.1 y.2)))
+found_once (Some text) (Accepted s) (Accepted t) read x y = ap Accepted (read.script text s t x.1 y.1)
 
-same_some : (one other : List ℕ) → Some one ≡ Some other → one ≡ other
-same_some one other e = cc
+checked_found : (text : List ℕ) (script : Script) (outcome : Result (List VarType) (ℕ × CheckCode)) → IsSpelled text script → checked script ≡ outcome
+    → (found : Found) × IsFoundIn (Some text) found
+checked_found text script (Ok types) spelled is = (Accepted script, (types, spelled, is))
+checked_found text script (Err fault) spelled is = (Rejected fault.0 fault.1, (script, spelled, is))
 
-none_some : (text : List ℕ) → None ≡ Some text → ⊥
-none_some text e = cc
+some_found : (look : Option (List ℕ)) → IsRead → (found : Found) × IsFoundIn look found
+some_found None read = (Missing, tt)
+some_found (Some text) read = elim (read.read text) [
+  | inl spelled ↦ checked_found text spelled.0 (checked spelled.0) spelled.1 refl
+  | inr place ↦ (Misspelled place.0, place.1)
+]
 
--- two texts of one file
-same_found : (files : FileMap) (name one other : List ℕ) (a b : Found) → IsRead → fin.get files name ≡ Some one → fin.get files name ≡ Some other → TextIs one a → TextIs other b → a ≡ b
-same_found files name one other a b read x y p q =
-    let e = same_some one other (sym x ∙ y) in
-    text_once other a b read (subst (λ (t : List ℕ). TextIs t a) e p) q
-
-gone : (files : FileMap) (name text : List ℕ) (a b : Found) → fin.get files name ≡ None → fin.get files name ≡ Some text → a ≡ b
-gone files name text a b x y = absurd (none_some text (sym x ∙ y))
-
-found_once : (files : FileMap) (name : List ℕ) (a b : Found) → IsRead → IsFound files name a → IsFound files name b → a ≡ b
-found_once files name Missing Missing read x y = refl
-found_once files name Missing (Misspelled q) read x y = gone files name y.0 Missing (Misspelled q) x y.1
-found_once files name Missing (Rejected t d) read x y = gone files name y.0 Missing (Rejected t d) x y.1
-found_once files name Missing (Accepted t) read x y = gone files name y.0 Missing (Accepted t) x y.1
-found_once files name (Misspelled p) Missing read x y = sym (gone files name x.0 Missing (Misspelled p) y x.1)
-found_once files name (Misspelled p) (Misspelled q) read x y = same_found files name x.0 y.0 (Misspelled p) (Misspelled q) read x.1 y.1 x.2 y.2
-found_once files name (Misspelled p) (Rejected t d) read x y = same_found files name x.0 y.0 (Misspelled p) (Rejected t d) read x.1 y.1 x.2 y.2
-found_once files name (Misspelled p) (Accepted t) read x y = same_found files name x.0 y.0 (Misspelled p) (Accepted t) read x.1 y.1 x.2 y.2
-found_once files name (Rejected s c) Missing read x y = sym (gone files name x.0 Missing (Rejected s c) y x.1)
-found_once files name (Rejected s c) (Misspelled q) read x y = same_found files name x.0 y.0 (Rejected s c) (Misspelled q) read x.1 y.1 x.2 y.2
-found_once files name (Rejected s c) (Rejected t d) read x y = same_found files name x.0 y.0 (Rejected s c) (Rejected t d) read x.1 y.1 x.2 y.2
-found_once files name (Rejected s c) (Accepted t) read x y = same_found files name x.0 y.0 (Rejected s c) (Accepted t) read x.1 y.1 x.2 y.2
-found_once files name (Accepted s) Missing read x y = sym (gone files name x.0 Missing (Accepted s) y x.1)
-found_once files name (Accepted s) (Misspelled q) read x y = same_found files name x.0 y.0 (Accepted s) (Misspelled q) read x.1 y.1 x.2 y.2
-found_once files name (Accepted s) (Rejected t d) read x y = same_found files name x.0 y.0 (Accepted s) (Rejected t d) read x.1 y.1 x.2 y.2
-found_once files name (Accepted s) (Accepted t) read x y = same_found files name x.0 y.0 (Accepted s) (Accepted t) read x.1 y.1 x.2 y.2
+-- ---- what is due
 
 for_once : (task : Task) (name : List ℕ) (files : FileMap) (v w : Verdict) → IsRead → DueFor task name files v → DueFor task name files w → v ≡ w
 for_once task name files v w read x y =
-    x.2 ∙ ap (verdict_for task name files) (found_once files name x.0 y.0 read x.1 y.1) ∙ sym y.2
+    x.2 ∙ ap (verdict_for task name files) (found_once (fin.get files name) x.0 y.0 read x.1 y.1) ∙ sym y.2
+
+pub some_due : (task : Task) (name : List ℕ) (files : FileMap) → IsRead → (verdict : Verdict) × DueFor task name files verdict
+some_due task name files read =
+    let found = some_found (fin.get files name) read in
+    (verdict_for task name files found.0, (found.0, found.1, refl))
 
 -- words are at most one command
 command_once : (words : List (List ℕ)) (t u : Task) (a b : List ℕ) → IsCommand words t a → IsCommand words u b → (t ≡ u) × (a ≡ b)
@@ -98,7 +98,7 @@ command_once words (Check true) (Check false) a b x y = let e = sym x.0 ∙ y.0 
 command_once words (Check true) (Check true) a b x y = let e = sym x.0 ∙ y.0 in (refl, cc)
 
 -- what is due for the task and the name of a command is what is due over its words
-pub once : (words : List (List ℕ)) (files : FileMap) (task : Task) (name : List ℕ) (v w : Verdict) → IsRead → IsCommand words task name → DueFor task name files v
+once : (words : List (List ℕ)) (files : FileMap) (task : Task) (name : List ℕ) (v w : Verdict) → IsRead → IsCommand words task name → DueFor task name files v
     → Due words files w → v ≡ w
 once words files task name v w read run d (inl usage) = absurd (usage.0 task name run)
 once words files task name v w read run d (inr due) =
@@ -109,3 +109,58 @@ pub due_once : (words : List (List ℕ)) (files : FileMap) (v w : Verdict) → I
 due_once words files v w read (inl x) (inl y) = x.1 ∙ sym y.1
 due_once words files v w read (inl x) (inr y) = absurd (x.0 y.0 y.1 y.2)
 due_once words files v w read (inr x) y = once words files x.0 x.1 v w read x.2 x.3 y
+
+-- ---- the number of actions
+
+pub actions_at : Option (List ThinStep) → ℕ
+actions_at None = 0
+actions_at (Some steps) = actions_of steps
+
+-- whatever they are of an accepted script, they are counted
+pub counted_at : (name : List ℕ) (files : FileMap) (script : Script) → IsFound files name (Accepted script) → (actions : ℕ) × Counted name files actions
+unfolding actions_at
+counted_at name files script found = (actions_at (thin_steps script), (script, found, λ steps is. ap actions_at is))
+
+same_script : (one other : Script) → Accepted one ≡ Accepted other → one ≡ other
+same_script one other e = cc
+
+-- counted for the script that was found, they are those of any script that is found
+are_actions : (name : List ℕ) (files : FileMap) (actions : ℕ) → IsRead → Counted name files actions → AreActions name files actions
+are_actions name files actions read counted script steps found thin =
+    let same = same_script counted.0 script (found_once (fin.get files name) (Accepted counted.0) (Accepted script) read counted.1 found) in
+    counted.2 steps (ap thin_steps same ∙ thin)
+
+pub runs_in : (words : List (List ℕ)) (task : Task) (name : List ℕ) (files : FileMap) (actions : ℕ) → IsRead → IsCommand words task name → Counted name files actions → RunsIn words files actions
+runs_in words task name files actions read command counted other run =
+    let same = command_once words task Run name other command run in
+    subst (λ (n : List ℕ). AreActions n files actions) same.1 (are_actions name files actions read counted)
+
+no_accepted : (script : Script) (found : Found) → Accepted script ≡ found → (found ≡ Missing) ⊎ (((place : ℕ) × (found ≡ Misspelled place)) ⊎ ((s : ℕ) × (c : CheckCode) × (found ≡ Rejected s c))) → ⊥
+no_accepted script found e (inl is) = let x = e ∙ is in cc
+no_accepted script found e (inr (inl is)) = let x = e ∙ is.1 in cc
+no_accepted script found e (inr (inr is)) = let x = e ∙ is.2 in cc
+
+-- there are such actions, whatever is found
+found_actions : (name : List ℕ) (files : FileMap) (found : Found) → IsRead → IsFound files name found → (actions : ℕ) × AreActions name files actions
+found_actions name files (Accepted script) read is =
+    let counted = counted_at name files script is in
+    (counted.0, are_actions name files counted.0 read counted.1)
+found_actions name files Missing read is =
+    (0, λ script steps there thin. absurd (no_accepted script Missing (found_once (fin.get files name) (Accepted script) Missing read there is) (inl refl)))
+found_actions name files (Misspelled place) read is =
+    (0, λ script steps there thin. absurd (no_accepted script (Misspelled place) (found_once (fin.get files name) (Accepted script) (Misspelled place) read there is) (inr (inl (place, refl)))))
+found_actions name files (Rejected s c) read is =
+    (0, λ script steps there thin. absurd (no_accepted script (Rejected s c) (found_once (fin.get files name) (Accepted script) (Rejected s c) read there is) (inr (inr (s, c, refl)))))
+
+pub some_runs_in : (words : List (List ℕ)) (task : Task) (name : List ℕ) (files : FileMap) → IsRead → IsCommand words task name → (actions : ℕ) × RunsIn words files actions
+some_runs_in words task name files read command =
+    let found = some_found (fin.get files name) read in
+    let counts = found_actions name files found.0 read found.1 in (
+      counts.0,
+      λ other run.
+          let same = command_once words task Run name other command run in
+          subst (λ (n : List ℕ). AreActions n files counts.0) same.1 counts.1,
+    )
+
+pub usage_runs_in : (words : List (List ℕ)) (files : FileMap) → IsUsage words → RunsIn words files 0
+usage_runs_in words files usage name run = absurd (usage Run name run)

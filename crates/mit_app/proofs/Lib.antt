@@ -1,4 +1,5 @@
 pub mod WordLemmas
 pub mod DueLemmas
 pub mod EndLemmas
+pub mod TaskLemmas
 pub mod ThinLemmas

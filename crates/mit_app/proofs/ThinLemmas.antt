@@ -1,5 +1,5 @@
 -- A thin script that was accepted is formed.
-use Rattle.std.proofs.Common.{◌≡◌, ◌≢◌, ◌∙◌, ◌+◌, ◌<◌, ◌≤◌, ◌++◌, ◌⊎◌, ℕ, zero, suc, List, [], ◌∷◌, length, map, max, All, refl, sym, ap, subst, inl, inr, arith, Bool, true, false, not, ◌&&◌, if◌then◌else◌, Option, Some, None, option_map, unwrap_or, Result, Ok, Err, nat_le, nat_lt, slice_get, slice_set, slice_index_or, flat_map, append-nil}
+use Rattle.std.proofs.Common.{◌≡◌, ◌≢◌, ◌∙◌, ◌+◌, ◌<◌, ◌≤◌, ◌++◌, ◌⊎◌, ℕ, zero, suc, List, [], ◌∷◌, length, map, max, All, refl, sym, ap, subst, inl, inr, arith, Bool, true, false, not, ◌&&◌, if◌then◌else◌, Option, Some, None, option_map, unwrap_or, is_some, Result, Ok, Err, nat_le, nat_lt, slice_get, slice_set, slice_index_or, flat_map, append-nil}
 use Rattle.std.specs.List.{list_all}
 use Rattle.std.specs.Cmp.Lexicographic.{as_long}
 use Rattle.std.specs.Option.{ok_or}
@@ -17,11 +17,10 @@ use Rattle.mit_expr.specs.declared.expr.Expr.{Expr, out-Expr}
 use Rattle.mit_expr.specs.declared.expr.Expr.TheOpen.{Expr-F}
 use Rattle.mit_expr.specs.declared.expr.Expr.TheOpen as expr
 use Rattle.mit_ops.specs.Kinds.{bag_inputs_of, captures_of}
-use Rattle.mit_ops.specs.Results.{bag, result, same_types}
+use Rattle.mit_ops.specs.Results.{bag, result, same_types, too_large, too_many_columns, wrong_type}
 use Rattle.mit_ops.specs.declared.kinds.OpSpec.{OpSpec}
 use Rattle.mit_ops.specs.declared.kinds.OpSpec.TheVariants as kind
 use Rattle.mit_ops.specs.declared.types.VarType.{VarType}
-use Rattle.mit_ops.specs.declared.types.OpRefused.TheVariants as refused
 use Rattle.mit_script.specs.Accepted.{Check, Known, and_then, assigned_by, assigning, at_start, bags_of, check_of, check_step, checked, fault_at, fault_or, first_type, given, in_order, is_assigned, is_kept, judged, passed, type_of, typed_or_code, written_by}
 use Rattle.mit_script.specs.Trees.{Head, IsFormed, IsFormedHead, IsNumbered, assigns, head_step, heads_in, is_in_order, variables_of, writes}
 use Rattle.mit_script.specs.declared.tree.Script.{Script}
@@ -32,9 +31,8 @@ use Rattle.mit_script.specs.declared.tree.Stmt.TheOpen as stmt
 use Rattle.mit_script.specs.declared.tree.Stmt.TheViews.{roll-Stmt, roll-out-Stmt}
 use Rattle.mit_script.specs.declared.typed.CheckCode.{CheckCode}
 use Rattle.mit_script.specs.declared.typed.CheckCode.TheVariants as code
-use Rattle.mit_engine.specs.Names.{IsLegal, is_legal}
-use Rattle.mit_engine.specs.Thin.{FormedFrom, MayAssign, columns_after}
-use Rattle.mit_engine.specs.Thin as thin
+use Rattle.mit_shelf.specs.Names.{IsLegal, is_legal}
+use Rattle.mit_engine.specs.Thin.{FormedFrom, IsFormedThin, MayAssign, columns_after}
 use Rattle.mit_engine.specs.declared.thin.ThinStep.{ThinStep}
 use Rattle.mit_engine.specs.declared.thin.ThinStep.TheVariants as step
 use Rattle.mit_app.specs.ThinScript.{assigned_step, before_steps, is_read, name_of, name_of_layer, name_of_value, step_of, step_of_layer, steps_of, thin_steps, written_step}
@@ -78,7 +76,7 @@ got_before [] ys i within = absurd (omega arith)
 got_before (x ∷ xs) ys zero within = refl
 got_before (x ∷ xs) ys (suc i) within = got_before xs ys i (omega arith)
 
--- the item behind a list
+-- the item after a list
 got_end : {A : Type 0} (xs : List A) (y : A) → slice_get (xs ++ y ∷ []) (length xs) ≡ Some y
 got_end [] y = refl
 got_end (x ∷ xs) y = got_end xs y
@@ -100,44 +98,65 @@ columns_in found = option_map (λ type. length type.cols) found
 record Agrees (variables : ℕ) (known : Known) (columns : List ℕ) : Type 0 where
   sized : length known.assigned ≡ variables
   typed : length known.types ≡ variables
-  assigned : (variable : ℕ) → is_assigned known variable ≡ true → variable < length columns
+  assigned : (variable : ℕ) → is_assigned known.assigned variable ≡ true → variable < length columns
   counted : (variable : ℕ) → variable < length columns → columns_in (first_type known variable) ≡ slice_get columns variable
+
+-- an assignment gives its variable a type with its columns, and leaves the others
+typed_here : (known : Known) (target : ℕ) (type : VarType) (found : Option VarType) → first_type known target ≡ found → is_kept found type ≡ true → target < length known.types
+    → columns_in (first_type (assigning target type known) target) ≡ Some (length type.cols)
+typed_here known target type None is kept within = rw is (rw (read_set known.types target (Some type) None within) refl)
+typed_here known target type (Some found) is kept within =
+    rw is (rw is (ap Some (as_long same_type found.cols type.cols (and_parts _ (same_types found.cols type.cols) kept).1)))
+
+typed_other : (known : Known) (target variable : ℕ) (type : VarType) → variable ≢ target → first_type (assigning target type known) variable ≡ first_type known variable
+typed_other known target variable type n =
+    elim (is_some (first_type known target)) as (λ some. unwrap_or (slice_get (if some then known.types else slice_set known.types target (Some type)) variable) None ≡ first_type known variable) [
+      | true ↦ refl
+      | false ↦ read_other known.types target variable (Some type) None n
+    ]
+
+typed_long : (known : Known) (target : ℕ) (type : VarType) → length (assigning target type known).types ≡ length known.types
+typed_long known target type =
+    elim (is_some (first_type known target)) as (λ some. length (if some then known.types else slice_set known.types target (Some type)) ≡ length known.types) [
+      | true ↦ refl
+      | false ↦ length-set known.types target (Some type)
+    ]
 
 -- one more assignment of a variable that has so many columns
 agrees_old : (variables : ℕ) (known : Known) (columns : List ℕ) (target : ℕ) (type : VarType) → Agrees variables known columns
-    → target < variables → slice_get columns target ≡ Some (length type.cols) → Agrees variables (assigning target type known) columns
-agrees_old variables known columns target type now within old = record {
+    → target < variables → is_kept (first_type known target) type ≡ true → slice_get columns target ≡ Some (length type.cols) → Agrees variables (assigning target type known) columns
+agrees_old variables known columns target type now within kept old = record {
   sized = length-set known.assigned target true ∙ now.sized;
-  typed = length-set known.types target (Some type) ∙ now.typed;
+  typed = typed_long known target type ∙ now.typed;
   assigned = λ variable is. elim (same_or_other variable target) [
     | inl e ↦ omega (arith, slice_get_within columns target (length type.cols) old)
     | inr n ↦ now.assigned variable (sym (read_other known.assigned target variable true false n) ∙ is)
   ];
   counted = λ variable below. elim (same_or_other variable target) [
-    | inl e ↦ rw e (rw (read_set known.types target (Some type) None (omega (arith, now.typed))) (sym old))
-    | inr n ↦ ap columns_in (read_other known.types target variable (Some type) None n) ∙ now.counted variable below
+    | inl e ↦ rw e (typed_here known target type (first_type known target) refl kept (omega (arith, now.typed)) ∙ sym old)
+    | inr n ↦ ap columns_in (typed_other known target variable type n) ∙ now.counted variable below
   ];
 }
 
 -- the first assignment of the next variable
 agrees_new : (variables : ℕ) (known : Known) (columns : List ℕ) (target : ℕ) (type : VarType) → Agrees variables known columns
-    → target < variables → target ≡ length columns → Agrees variables (assigning target type known) (columns ++ length type.cols ∷ [])
-agrees_new variables known columns target type now within new = record {
+    → target < variables → is_kept (first_type known target) type ≡ true → target ≡ length columns → Agrees variables (assigning target type known) (columns ++ length type.cols ∷ [])
+agrees_new variables known columns target type now within kept new = record {
   sized = length-set known.assigned target true ∙ now.sized;
-  typed = length-set known.types target (Some type) ∙ now.typed;
+  typed = typed_long known target type ∙ now.typed;
   assigned = λ variable is. elim (same_or_other variable target) [
     | inl e ↦ omega (arith, length-append columns (length type.cols ∷ []))
     | inr n ↦ omega (arith, length-append columns (length type.cols ∷ []), now.assigned variable (sym (read_other known.assigned target variable true false n) ∙ is))
   ];
   counted = λ variable below. elim (same_or_other variable target) [
-    | inl e ↦ rw e (rw (read_set known.types target (Some type) None (omega (arith, now.typed))) (rw new (sym (got_end columns (length type.cols)))))
+    | inl e ↦ rw e (typed_here known target type (first_type known target) refl kept (omega (arith, now.typed)) ∙ rw new (sym (got_end columns (length type.cols))))
     | inr n ↦
         let inside : variable < length columns = omega (arith, length-append columns (length type.cols ∷ [])) in
-        ap columns_in (read_other known.types target variable (Some type) None n) ∙ now.counted variable inside ∙ sym (got_before columns (length type.cols ∷ []) variable inside)
+        ap columns_in (typed_other known target variable type n) ∙ now.counted variable inside ∙ sym (got_before columns (length type.cols ∷ []) variable inside)
   ];
 }
 
--- ---- the columns behind an assignment
+-- ---- the columns after an assignment
 
 -- a variable that has columns keeps them
 columns_kept : (columns : List ℕ) (target count : ℕ) → target < length columns → columns_after columns target count ≡ columns
@@ -169,18 +188,18 @@ placed_old variables columns known target type now within kept below =
     record {
       may = inr old;
       long = omega (arith, ap length same);
-      agrees = subst (Agrees variables (assigning target type known)) (sym same) (agrees_old variables known columns target type now within old);
+      agrees = subst (Agrees variables (assigning target type known)) (sym same) (agrees_old variables known columns target type now within kept old);
     }
 
 -- the first assignment of the next variable
 placed_new : (variables : ℕ) (columns : List ℕ) (known : Known) (target : ℕ) (type : VarType) → Agrees variables known columns
-    → target < variables → target ≡ length columns → Placed variables columns known target type
-placed_new variables columns known target type now within new =
+    → target < variables → is_kept (first_type known target) type ≡ true → target ≡ length columns → Placed variables columns known target type
+placed_new variables columns known target type now within kept new =
     let same = columns_grow columns target (length type.cols) new in
     record {
       may = inl new;
       long = omega (arith, ap length same, length-append columns (length type.cols ∷ []));
-      agrees = subst (Agrees variables (assigning target type known)) (sym same) (agrees_new variables known columns target type now within new);
+      agrees = subst (Agrees variables (assigning target type known)) (sym same) (agrees_new variables known columns target type now within kept new);
     }
 
 -- a variable is an old one or the next one
@@ -192,7 +211,7 @@ placed : (variables : ℕ) (columns : List ℕ) (known : Known) (target : ℕ) (
     → target < variables → is_kept (first_type known target) type ≡ true → target ≤ length columns → Placed variables columns known target type
 placed variables columns known target type now within kept most = elim (old_or_new target (length columns) most) [
   | inl below ↦ placed_old variables columns known target type now within kept below
-  | inr new ↦ placed_new variables columns known target type now within new
+  | inr new ↦ placed_new variables columns known target type now within kept new
 ]
 
 -- ---- the order of new variables
@@ -211,26 +230,27 @@ order_past p next (arg ∷ args) rest below all ordered =
 
 -- its arguments are assigned, and its type is the operator's
 record Judged (known : Known) (operator : OpSpec) (args : List ℕ) (type : VarType) : Type 0 where
-  all : list_all (is_assigned known) args ≡ true
+  all : list_all (is_assigned known.assigned) args ≡ true
   captures : List ColType
   gives : result operator (bags_of known operator args) captures ≡ Some type
 
 -- an operator that passes has assigned arguments and a type
-judged_from : (assigned scalars many wide : Bool) (found : Option VarType) (type : VarType)
-    → (if not assigned then Err code.Unassigned else if not scalars then Err code.NotScalar
-    else typed_or_code (if many then Err refused.TooLarge else if wide then Err refused.TooManyColumns else ok_or found refused.WrongType)) ≡ Ok type
+judged_from : (assigned scalars large many wide : Bool) (found : Option VarType) (type : VarType)
+    → (if not assigned then Err code.Unassigned else if not scalars then Err code.NotScalar else if large then Err code.TooLarge
+    else typed_or_code (if many then Err too_large else if wide then Err too_many_columns else ok_or found wrong_type)) ≡ Ok type
     → (assigned ≡ true) × (found ≡ Some type)
-judged_from false scalars many wide found type is = absurd cc
-judged_from true false many wide found type is = absurd cc
-judged_from true true true wide found type is = absurd cc
-judged_from true true false true found type is = absurd cc
-judged_from true true false false None type is = absurd cc
-judged_from true true false false (Some found) type is = (refl, cc)
+judged_from false scalars large many wide found type is = absurd cc
+judged_from true false large many wide found type is = absurd cc
+judged_from true true true many wide found type is = absurd cc
+judged_from true true false true wide found type is = absurd cc
+judged_from true true false false true found type is = absurd cc
+judged_from true true false false false None type is = absurd cc
+judged_from true true false false false (Some found) type is = (refl, cc)
 
 -- the same of what a check says of an operator
 judged_ok : (known : Known) (operator : OpSpec) (args : List ℕ) (type : VarType) → judged known operator args ≡ Ok type → Judged known operator args type
 judged_ok known operator args type is =
-    let both = judged_from _ _ _ _ (result operator (bags_of known operator args) _) type is in
+    let both = judged_from _ _ _ _ _ (result operator (bags_of known operator args) _) type is in
     record { all = both.0; captures = _; gives = both.1 }
 
 -- ---- the arguments
@@ -242,7 +262,7 @@ given_count (Some type) has count same some = sym same
 
 -- an assigned variable has as many columns as its type
 variable_columns : (variables : ℕ) (known : Known) (columns : List ℕ) (variable : ℕ) → Agrees variables known columns
-    → is_assigned known variable ≡ true → slice_get columns variable ≡ Some (length (type_of known variable).cols)
+    → is_assigned known.assigned variable ≡ true → slice_get columns variable ≡ Some (length (type_of known variable).cols)
 variable_columns variables known columns variable now is =
     let below : variable < length columns = now.assigned variable is in
     given_count (first_type known variable) (slice_get columns variable) (slice_index_or columns variable 0) (now.counted variable below) (slice_get-get_or columns variable 0 below)
@@ -306,7 +326,7 @@ kept_from known target (Ok type) after is =
     let both = ok_by (is_kept (first_type known target) type) (assigning target type known) after (fault_at known code.WrongType) is in
     record { type = type; is = refl; kept = both.0; gives = both.1 }
 
--- what is so behind an assignment
+-- what is so after an assignment
 record Assignment (variables : ℕ) (columns : List ℕ) (known after : Known) (target : ℕ) (operator : OpSpec) (args rest : List ℕ) : Type 0 where
   type : VarType
   judged : Judged known operator args type
@@ -323,7 +343,7 @@ assignment variables columns known after target operator args rest now within or
     let found = judged_ok known operator args kept.type kept.is in
     let both = and_parts (nat_le target (length columns)) (is_in_order (max (length columns) (target + 1)) (args ++ rest)) ordered in
     let place = placed variables columns known target kept.type now within kept.kept (leb-true target (length columns) both.0) in
-    let past = order_past (is_assigned known) (max (length columns) (target + 1)) args rest (λ variable known. omega (arith, now.assigned variable known)) found.all both.1 in
+    let past = order_past (is_assigned known.assigned) (max (length columns) (target + 1)) args rest (λ variable known. omega (arith, now.assigned variable known)) found.all both.1 in
     record {
       type = kept.type;
       judged = found;
@@ -363,8 +383,8 @@ union_next variables columns known after target [] rest one now enough here is =
 union_next variables columns known after target (bag ∷ []) rest one now enough here is = absurd (omega arith)
 union_next variables columns known after target (bag ∷ other ∷ args) rest one now enough here is =
     let both = union_cols (type_of known bag) (type_of known other) here.type here.judged.captures here.judged.gives in
-    let first = and_parts (is_assigned known bag) (list_all (is_assigned known) (other ∷ args)) here.judged.all in
-    let second = and_parts (is_assigned known other) (list_all (is_assigned known) args) first.1 in
+    let first = and_parts (is_assigned known.assigned bag) (list_all (is_assigned known.assigned) (other ∷ args)) here.judged.all in
+    let second = and_parts (is_assigned known.assigned other) (list_all (is_assigned known.assigned) args) first.1 in
     let left = variable_columns variables known columns bag now first.0 ∙ ap (λ (cols : List ColType). Some (length cols)) both.0 in
     let right = variable_columns variables known columns other now second.0 ∙ ap Some both.1 in
     record {
@@ -404,11 +424,11 @@ written_next variables columns known after name (bag ∷ args) rest one now comp
     let found = judged_ok known (kind.Write name) (bag ∷ args) pass.0 pass.1 in
     let named = mapped_from (step.Write bag) (name_of name) one gives in
     let legal = layer_named (out-Expr name) named.0 named.1 in
-    let below = now.assigned bag (and_parts (is_assigned known bag) (list_all (is_assigned known) args) found.all).0 in
+    let below = now.assigned bag (and_parts (is_assigned known.assigned bag) (list_all (is_assigned known.assigned) args) found.all).0 in
     record {
       later = columns;
       agrees = subst (λ (k : Known). Agrees variables k columns) pass.2 (agrees_passed variables known columns now);
-      ordered = order_past (is_assigned known) (length columns) (bag ∷ args) rest now.assigned found.all ordered;
+      ordered = order_past (is_assigned known.assigned) (length columns) (bag ∷ args) rest now.assigned found.all ordered;
       formed = λ steps formed. subst (λ (s : ThinStep). FormedFrom columns (s ∷ steps)) named.2 (legal, below, formed);
     }
 
@@ -524,7 +544,7 @@ agrees_start names = record {
 
 -- the steps of a formed and numbered script that was accepted are formed
 pub thin_formed : (script : Script) (types : List VarType) (steps : List ThinStep) → IsFormed script → IsNumbered script
-    → checked script ≡ Ok types → thin_steps script ≡ Some steps → thin.IsFormed steps
+    → checked script ≡ Ok types → thin_steps script ≡ Some steps → IsFormedThin steps
 thin_formed script types steps formed numbered accepted is =
     let short = given_by (nat_le (length script.body) 1000) (steps_of script.body) steps is in
     let pass = and_from (in_order (map check_of script.body) (at_start script.names)) (λ last. Ok (map given last.types)) types accepted in (

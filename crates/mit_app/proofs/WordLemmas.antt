@@ -3,7 +3,8 @@ use Rattle.std.proofs.Common.{◌≡◌, ◌∙◌, ◌<◌, ◌≤◌, ℕ, Lis
 use Rattle.std.specs.Prelude.{Bool, true, false, String, string_bytes, codes}
 use Rattle.std.specs.Str.{bytes_eq}
 use Rattle.std.proofs.lemmas.Slice.Eq.{bytes_eq-Decides}
-use Rattle.mit_engine.specs.Names.{IsLegal, is_legal}
+use Rattle.std.proofs.lemmas.Bool.{and_parts, leb-true}
+use Rattle.mit_shelf.specs.Names.{IsLegal, is_legal}
 use Rattle.mit_app.specs.Due.{IsCommand, IsUsage, texts}
 use Rattle.mit_app.specs.declared.words.Task.TheVariants.{Run, Check}
 
@@ -81,3 +82,9 @@ pub usage_of : (words : List (List ℕ)) → ((script : List ℕ) → ¬ IsComma
 usage_of words run check print Run script = run script
 usage_of words run check print (Check false) script = check script
 usage_of words run check print (Check true) script = print script
+
+-- a legal name is short
+pub legal_short : (name : List ℕ) → IsLegal name → length name ≤ 64
+unfolding is_legal
+legal_short [] legal = omega arith
+legal_short (byte ∷ bytes) legal = leb-true (length (byte ∷ bytes)) 64 (and_parts _ _ legal).1

@@ -1,28 +1,33 @@
--- What a call is to answer over its words and the folder's files.
-use Rattle.std.specs.Prelude.{◌≡◌, ◌⊎◌, ℕ, List, [], ◌∷◌, ◌++◌, codes, map, Bool, true, false, if◌then◌else◌, Option, Some, None, Ok, Err, IfSome, option_map}
+-- What is due over the words of a call and the files of a folder.
+use Rattle.std.specs.Prelude.{◌≡◌, ⊤, ◌⊎◌, ℕ, List, [], ◌∷◌, ◌++◌, codes, map, Bool, true, false, if◌then◌else◌, Option, Some, None, Ok, Err}
 use Rattle.std.specs.Prelude.{String, string_bytes}
 use Rattle.std.specs.FinMap as fin
 use Rattle.mit_world.specs.Files.{FileMap}
-use Rattle.mit_world.specs.Outside.{Held}
-use Rattle.mit_ops.specs.declared.faults.FaultKind.{FaultKind}
+use Rattle.mit_shelf.specs.Names.{IsLegal}
+use Rattle.mit_shelf.specs.Printed.{published}
 use Rattle.mit_ops.specs.declared.types.VarType.{VarType}
 use Rattle.mit_script.specs.Accepted.{checked}
+use Rattle.mit_script.specs.Grammar.{IsSpelled}
 use Rattle.mit_script.specs.Printed.{printed}
 use Rattle.mit_script.specs.Trees.{statements_of}
 use Rattle.mit_script.specs.declared.tree.Script.{Script}
 use Rattle.mit_script.specs.declared.typed.CheckCode.{CheckCode}
 use Rattle.mit_parse.specs.Places.{IsRefusedAt}
-use Rattle.mit_script.specs.Grammar.{IsSpelled}
-use Rattle.mit_engine.specs.Names.{IsLegal}
-use Rattle.mit_engine.specs.Printed.{Write, published}
 use Rattle.mit_engine.specs.Thin.{Ending, Faulted, Finished, actions_of, exec}
 use Rattle.mit_engine.specs.declared.thin.ThinStep.{ThinStep}
-use Rattle.mit_app.specs.Lines.{absent_line, accepted_line, fault_line, not_thin_line, outbox_line, rejected_line, report_line, syntax_line, usage_line}
+use Rattle.mit_app.specs.Lines.{accepted_line, refusal_line, report_line}
+use Rattle.mit_app.specs.Statuses.{refusal_status}
 use Rattle.mit_app.specs.ThinScript.{thin_steps}
+use Rattle.mit_app.specs.declared.ends.Refusal.{Refusal}
+use Rattle.mit_app.specs.declared.ends.Refusal.TheVariants as refusal
 use Rattle.mit_app.specs.declared.words.Task.{Task}
 use Rattle.mit_app.specs.declared.words.Task.TheVariants.{Run, Check}
 
 -- ---- words
+
+-- the words of a command line as bytes
+abbrev pub texts : {A : Type 0} → List (String A) → List (List ℕ)
+texts words = map string_bytes words
 
 -- the words of a task with a script of this name
 abbrev pub words_for : Task → List ℕ → List (List ℕ)
@@ -38,6 +43,10 @@ IsCommand words task script = (words ≡ words_for task script) × IsLegal scrip
 abbrev pub IsUsage : List (List ℕ) → Type 0
 IsUsage words = (task : Task) (script : List ℕ) → ¬ IsCommand words task script
 
+-- the words ask for a check
+abbrev pub IsCheck : List (List ℕ) → Type 0
+IsCheck words = (shown : Bool) × (script : List ℕ) × IsCommand words (Check shown) script
+
 -- ---- what is found under a script's name
 
 -- no file, a text that is refused at a byte, a script of which a statement is refused, or an accepted script
@@ -47,56 +56,50 @@ pub data Found : Type 0 where
   Rejected : ℕ → CheckCode → Found
   Accepted : Script → Found
 
--- a text spells a script that the check accepts, or one of which it refuses a statement first, or no script
-abbrev pub TextIs : List ℕ → Found → Type 0
-TextIs text Missing = ⊥
-TextIs text (Misspelled place) = IsRefusedAt text place
-TextIs text (Rejected statement code) = (script : Script) × IsSpelled text script × (checked script ≡ Err (statement, code))
-TextIs text (Accepted script) = (types : List VarType) × IsSpelled text script × (checked script ≡ Ok types)
+-- what is found where a look-up gives no file, or this text
+abbrev pub IsFoundIn : Option (List ℕ) → Found → Type 0
+IsFoundIn None Missing = ⊤
+IsFoundIn None (Misspelled place) = ⊥
+IsFoundIn None (Rejected statement code) = ⊥
+IsFoundIn None (Accepted script) = ⊥
+IsFoundIn (Some text) Missing = ⊥
+IsFoundIn (Some text) (Misspelled place) = IsRefusedAt text place
+IsFoundIn (Some text) (Rejected statement code) = (script : Script) × IsSpelled text script × (checked script ≡ Err (statement, code))
+IsFoundIn (Some text) (Accepted script) = (types : List VarType) × IsSpelled text script × (checked script ≡ Ok types)
 
 abbrev pub IsFound : FileMap → List ℕ → Found → Type 0
-IsFound files name Missing = fin.get files name ≡ None
-IsFound files name found = (text : List ℕ) × (fin.get files name ≡ Some text) × TextIs text found
+IsFound files name found = IsFoundIn (fin.get files name) found
 
 -- ---- what is due
 
 -- how a call ends by itself
 pub data Verdict : Type 0 where
-  -- the words are no command
-  Usage : Verdict
-  -- there is no such file
-  Absent : List ℕ → Verdict
-  -- no script is spelled: the place of the refusal
-  SyntaxAt : ℕ → Verdict
-  -- the check refuses a statement
-  Refuses : ℕ → CheckCode → Verdict
-  -- the script is accepted, but cannot be run yet
-  NotThin : Verdict
-  -- it is at fault: its statement, and what is wrong
-  AtFault : ℕ → FaultKind → Verdict
-  -- its files are published
-  Publishes : List ThinStep → List Write → Verdict
+  -- the words, the files or the script are refused
+  Refused : Refusal → Verdict
+  -- the script ran through so many blocks, and these files are published
+  Publishes : FileMap → ℕ → Verdict
   -- it is accepted: how many statements it has, and the text that is shown
   Accepts : ℕ → List ℕ → Verdict
 
--- the step-by-step interpreter runs the script over the folder's files
-abbrev pub ended : List ThinStep → Ending → Verdict
-ended steps (Faulted statement kind) = AtFault statement kind
-ended steps (Finished writes) = Publishes steps writes
+-- the step-by-step interpreter ended so; a thin script has one block, and no decisions
+abbrev pub ended : Ending → Verdict
+ended (Faulted statement kind) = Refused (refusal.Fault (record { statement = statement; decisions = 0; kind = kind }))
+ended (Finished writes) = Publishes (published writes) 1
 
 abbrev pub run_verdict : FileMap → Option (List ThinStep) → Verdict
-run_verdict files None = NotThin
-run_verdict files (Some steps) = ended steps (exec files steps)
+run_verdict files None = Refused refusal.NotThin
+run_verdict files (Some steps) = ended (exec files steps)
 
 -- what a task makes of an accepted script
 abbrev pub task_verdict : Task → FileMap → Script → Verdict
 task_verdict Run files script = run_verdict files (thin_steps script)
 task_verdict (Check shown) files script = Accepts (statements_of script) (if shown then printed script else [])
 
+-- what a task makes of what is found
 abbrev pub verdict_for : Task → List ℕ → FileMap → Found → Verdict
-verdict_for task name files Missing = Absent name
-verdict_for task name files (Misspelled place) = SyntaxAt place
-verdict_for task name files (Rejected statement code) = Refuses statement code
+verdict_for task name files Missing = Refused (refusal.Absent name)
+verdict_for task name files (Misspelled place) = Refused (refusal.Syntax place)
+verdict_for task name files (Rejected statement code) = Refused (refusal.Statement statement code)
 verdict_for task name files (Accepted script) = task_verdict task files script
 
 -- what is due for a task with a script of this name
@@ -106,58 +109,27 @@ DueFor task name files verdict = (found : Found) × IsFound files name found × 
 -- what is due over these words and files
 abbrev pub Due : List (List ℕ) → FileMap → Verdict → Type 0
 Due words files verdict =
-    (IsUsage words × (verdict ≡ Usage))
+    (IsUsage words × (verdict ≡ Refused refusal.Usage))
     ⊎ ((task : Task) × (name : List ℕ) × IsCommand words task name × DueFor task name files verdict)
 
--- its status
+-- so many actions are those of the run of the script of this name, where it can be run
+abbrev pub AreActions : List ℕ → FileMap → ℕ → Type 0
+AreActions name files actions =
+    (script : Script) (steps : List ThinStep) → IsFound files name (Accepted script) → thin_steps script ≡ Some steps → actions ≡ actions_of steps
+
+-- the same of the run for which the words ask
+abbrev pub RunsIn : List (List ℕ) → FileMap → ℕ → Type 0
+RunsIn words files actions = (name : List ℕ) → IsCommand words Run name → AreActions name files actions
+
+-- ---- its status and its text
+
 abbrev pub status_of : Verdict → ℕ
-status_of Usage = 2
-status_of (Absent name) = 9
-status_of (SyntaxAt place) = 3
-status_of (Refuses statement code) = 3
-status_of NotThin = 3
-status_of (AtFault statement kind) = 1
-status_of (Publishes steps writes) = 0
+status_of (Refused why) = refusal_status why
+status_of (Publishes files blocks) = 0
 status_of (Accepts count shown) = 0
 
--- the text that the console gains
-abbrev pub text_of : Verdict → List ℕ
-text_of Usage = usage_line
-text_of (Absent name) = absent_line name
-text_of (SyntaxAt place) = syntax_line place
-text_of (Refuses statement code) = rejected_line statement code
-text_of NotThin = not_thin_line
-text_of (AtFault statement kind) = fault_line statement 0 kind
-text_of (Publishes steps writes) = report_line (fin.len (published writes)) 1 (actions_of steps)
-text_of (Accepts count shown) = accepted_line count ++ shown
-
--- ---- what comes of it
-
--- a status that tells of the folder, the outbox, the console or memory
-abbrev pub IsOutside : ℕ → Type 0
-IsOutside status = (status ≡ 4) ⊎ (status ≡ 5) ⊎ (status ≡ 6) ⊎ (status ≡ 7)
-
--- a status that comes before anything is staged
-abbrev pub IsBeforeStaging : ℕ → Type 0
-IsBeforeStaging status = (status ≡ 1) ⊎ (status ≡ 2) ⊎ (status ≡ 3) ⊎ (status ≡ 4) ⊎ (status ≡ 9)
-
--- where nothing was staged before, these files and no others are published
-abbrev pub PublishesAfresh : FileMap → Option Held → Option Held → Type 0
-PublishesAfresh files old new = IfSome old (λ held. held.staged ≡ fin.empty → new ≡ Some (record { staged = files; published = Some files }))
-
--- the words of a command line as bytes
-abbrev pub texts : {A : Type 0} → List (String A) → List (List ℕ)
-texts words = map string_bytes words
-
--- the words ask for a check
-abbrev pub IsCheck : List (List ℕ) → Type 0
-IsCheck words = (shown : Bool) × (script : List ℕ) × IsCommand words (Check shown) script
-
--- the console has gained nothing, or this report, and then may have gained another line
-abbrev pub StopsAfter : List ℕ → Option (List ℕ) → Option (List ℕ) → Type 0
-StopsAfter report old new = (new ≡ old) ⊎ (new ≡ option_map (λ before. before ++ report) old)
-
--- the console has gained the line of a failed outbox, alone or behind this report
-abbrev pub TellsOutbox : List ℕ → Option (List ℕ) → Option (List ℕ) → Type 0
-TellsOutbox report old new =
-    (new ≡ option_map (λ before. before ++ outbox_line) old) ⊎ (new ≡ option_map (λ before. (before ++ report) ++ outbox_line) old)
+-- the text that the console gains, where a run took so many actions
+abbrev pub text_of : Verdict → ℕ → List ℕ
+text_of (Refused why) actions = refusal_line why
+text_of (Publishes files blocks) actions = report_line (fin.len files) blocks actions
+text_of (Accepts count shown) actions = accepted_line count ++ shown

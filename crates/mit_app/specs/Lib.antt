@@ -1,4 +1,6 @@
 pub mod ThinScript
 pub mod Lines
+pub mod Statuses
 pub mod Due
-pub mod Refusals
+pub mod Answers
+pub mod Ends

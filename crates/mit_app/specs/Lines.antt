@@ -4,6 +4,10 @@ use Rattle.mit_ops.specs.declared.faults.FaultKind.{FaultKind}
 use Rattle.mit_ops.specs.declared.faults.FaultKind.TheVariants as kind
 use Rattle.mit_script.specs.declared.typed.CheckCode.{CheckCode}
 use Rattle.mit_script.specs.declared.typed.CheckCode.TheVariants as code
+use Rattle.mit_app.specs.declared.ends.Outside.{Outside}
+use Rattle.mit_app.specs.declared.ends.Outside.TheVariants as outside
+use Rattle.mit_app.specs.declared.ends.Refusal.{Refusal}
+use Rattle.mit_app.specs.declared.ends.Refusal.TheVariants as refusal
 
 -- a line of these parts
 abbrev pub line : List (List ℕ) → List ℕ
@@ -14,6 +18,9 @@ line (part ∷ parts) = part ++ line parts
 abbrev pub report_line : ℕ → ℕ → ℕ → List ℕ
 report_line files blocks actions =
     line (codes "files " ∷ decimal files ∷ codes ", blocks " ∷ decimal blocks ∷ codes ", actions " ∷ decimal actions ∷ [])
+
+abbrev pub accepted_line : ℕ → List ℕ
+accepted_line count = line (codes "accepted, statements " ∷ decimal count ∷ [])
 
 abbrev pub kind_words : FaultKind → List ℕ
 kind_words kind.Overflow = codes "overflow"
@@ -27,21 +34,6 @@ kind_words kind.BadName = codes "bad name"
 kind_words (kind.BadRow number) = codes "bad record " ++ decimal number
 kind_words kind.DecisionLimit = codes "decision limit"
 
--- a script's fault: its statement, the decisions before it and its kind
-abbrev pub fault_line : ℕ → ℕ → FaultKind → List ℕ
-fault_line statement decisions kind =
-    line (codes "fault: statement " ∷ decimal statement ∷ codes ", decisions " ∷ decimal decisions ∷ codes ", " ∷ kind_words kind ∷ [])
-
-abbrev pub usage_line : List ℕ
-usage_line = line (codes "usage: mitos run|step|check|plan SCRIPT, or mitos demo DAYS" ∷ [])
-
-abbrev pub absent_line : List ℕ → List ℕ
-absent_line name = line (codes "no such file: " ∷ name ∷ [])
-
--- no script is spelled: the place of the refusal
-abbrev pub syntax_line : ℕ → List ℕ
-syntax_line place = line (codes "script refused: syntax at byte " ∷ decimal place ∷ [])
-
 abbrev pub code_words : CheckCode → List ℕ
 code_words code.Unassigned = codes "not assigned"
 code_words code.NotScalar = codes "not a scalar"
@@ -49,21 +41,20 @@ code_words code.TooLarge = codes "too large"
 code_words code.TooManyColumns = codes "too many columns"
 code_words code.WrongType = codes "wrong type"
 
--- a statement that the check refuses, and why
-abbrev pub rejected_line : ℕ → CheckCode → List ℕ
-rejected_line statement code = line (codes "script refused: statement " ∷ decimal statement ∷ codes ", " ∷ code_words code ∷ [])
+-- what is refused
+abbrev pub refusal_line : Refusal → List ℕ
+refusal_line refusal.Usage = line (codes "usage: mitos run|step|check|plan SCRIPT, or mitos demo DAYS" ∷ [])
+refusal_line (refusal.Absent name) = line (codes "no such file: " ∷ name ∷ [])
+refusal_line (refusal.Syntax place) = line (codes "script refused: syntax at byte " ∷ decimal place ∷ [])
+refusal_line (refusal.Statement statement code) =
+    line (codes "script refused: statement " ∷ decimal statement ∷ codes ", " ∷ code_words code ∷ [])
+refusal_line refusal.NotThin = line (codes "script refused: not a thin script" ∷ [])
+refusal_line (refusal.Fault fault) =
+    line (codes "fault: statement " ∷ decimal fault.statement ∷ codes ", decisions " ∷ decimal fault.decisions ∷ codes ", " ∷ kind_words fault.kind ∷ [])
 
-abbrev pub accepted_line : ℕ → List ℕ
-accepted_line count = line (codes "accepted, statements " ∷ decimal count ∷ [])
-
-abbrev pub not_thin_line : List ℕ
-not_thin_line = line (codes "script refused: not a thin script" ∷ [])
-
-abbrev pub folder_line : List ℕ
-folder_line = line (codes "folder fault" ∷ [])
-
-abbrev pub outbox_line : List ℕ
-outbox_line = line (codes "outbox fault" ∷ [])
-
-abbrev pub memory_line : List ℕ
-memory_line = line (codes "out of memory" ∷ [])
+-- what failed outside; where the console failed there is none
+abbrev pub outside_line : Outside → List ℕ
+outside_line outside.Folder = line (codes "folder fault" ∷ [])
+outside_line outside.Outbox = line (codes "outbox fault" ∷ [])
+outside_line outside.Console = []
+outside_line outside.NoMemory = line (codes "out of memory" ∷ [])

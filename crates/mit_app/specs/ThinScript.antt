@@ -15,7 +15,7 @@ use Rattle.mit_script.specs.declared.tree.Script.{Script}
 use Rattle.mit_script.specs.declared.tree.Stmt.{Stmt, out-Stmt}
 use Rattle.mit_script.specs.declared.tree.Stmt.TheOpen.{Stmt-F}
 use Rattle.mit_script.specs.declared.tree.Stmt.TheOpen as stmt
-use Rattle.mit_engine.specs.Names.{is_legal}
+use Rattle.mit_shelf.specs.Names.{is_legal}
 use Rattle.mit_engine.specs.Thin.{most_columns, most_statements}
 use Rattle.mit_engine.specs.declared.thin.ThinStep.{ThinStep}
 use Rattle.mit_engine.specs.declared.thin.ThinStep.TheVariants as step

@@ -1,20 +1,28 @@
-ghost use Rattle.std.specs.Prelude.{◌≡◌, ◌≢◌, ◌≤◌, ◌⊎◌, ◌++◌, List, IfErr, IfSome, OnErr, option_map};
+ghost use Rattle.std.specs.Prelude.{◌≡◌, ◌≢◌, ◌≤◌, ◌⊎◌, IfErr, IfSome, OnErr};
+ghost use Rattle.mit_world.specs.Files.{FileMap};
 ghost use Rattle.mit_world.specs.Outside.{Continues, Rose};
-ghost use Rattle.mit_engine.specs.Printed.{Write, published};
-ghost use Rattle.mit_engine.specs.Staging.{published_in};
-ghost use Rattle.mit_engine.specs.declared.thin.ThinStep.{ThinStep};
-ghost use Rattle.mit_app.specs.Due.{Due, IsBeforeStaging, IsCheck, IsOutside, IsUsage, Publishes, PublishesAfresh, TellsOutbox, Verdict, status_of, text_of, texts};
-ghost use Rattle.mit_app.specs.Lines.{folder_line, usage_line};
-ghost use Rattle.mit_app.specs.Refusals.{EndsFor, IfLine, IfOutsideFails, IfUnstaged, IsCheckTask, refused_line, refused_status};
+ghost use Rattle.mit_shelf.specs.Names.{IsLegal};
+ghost use Rattle.mit_shelf.specs.Shelf.{Agrees};
+ghost use Rattle.mit_shelf.specs.Staging.{published_in};
+ghost use Rattle.mit_app.specs.Answers.{Answers, Gains, TellsFiles};
+ghost use Rattle.mit_app.specs.Due.{IsCheck, IsUsage, texts};
+ghost use Rattle.mit_app.specs.Ends.{Ends, IfFailed, IfLine, IsCheckTask, halt_line, halt_status};
+ghost use Rattle.mit_app.specs.Lines.{outside_line, refusal_line};
+ghost use Rattle.mit_app.specs.Statuses.{IsUnstaged};
+ghost use Rattle.mit_app.specs.declared.ends.Outside.TheVariants as outside;
+ghost use Rattle.mit_app.specs.declared.ends.Refusal.TheVariants as refusal;
 ghost use Rattle.mit_app.specs.declared.words.Task.TheVariants as task;
 
-use crate::inspect::inspect;
-use crate::lines::refusal;
-use crate::refused::Refused;
-use crate::run::{fetch, publish, run};
+use crate::check::show;
+use crate::ends::{Halt, Outside, Refusal};
+use crate::lines::halted;
+use crate::run::{publish, run};
+use crate::script::read_script;
 use crate::words::{Task, command_of};
 use mit_engine::{Schedule, Seeded};
 use mit_parse::laws::one_reading;
+use mit_shelf::Shelf;
+use mit_shelf::laws::shelves_agree_with_their_files;
 use mit_world::{Console, Folder, Outbox, OutsideStop};
 use std::alloc::Global;
 
@@ -37,41 +45,26 @@ pub fn mitos<F: Folder, O: Outbox, C: Console>(
     outbox: &mut O,
     console: &mut C,
 ) -> u8
-    // The status is one that the outside or memory explains, or what is due over the told files and words.
-    ensures due { IfSome (F.files folder.old) (λ files. IsOutside result
-        ⊎ ((verdict : Verdict) × Due (texts words.now) files verdict × (result ≡ status_of verdict))) }
+    // There are files, those that the folder tells where it tells any, over which the call answers what is due.
+    ensures answers { (files : FileMap) × TellsFiles (F.files folder.old) files
+        × Answers O.held (texts words.now) files result outbox.old outbox.new (C.written console.old) (C.written console.new) }
 
-    // What is due comes, but for the faults of the outside and want of memory.
-    ensures comes { IfSome (F.files folder.old) (λ files. (verdict : Verdict)
-        → Due (texts words.now) files verdict → IsOutside result ⊎ (result ≡ status_of verdict)) }
-    ensures console { IfSome (F.files folder.old) (λ files. (verdict : Verdict)
-        → Due (texts words.now) files verdict → result ≡ status_of verdict
-        → C.written console.new ≡ option_map (λ before. before ++ text_of verdict) (C.written console.old)) }
-    ensures published { IfSome (F.files folder.old) (λ files. (steps : List ThinStep) (writes : List Write)
-        → Due (texts words.now) files (Publishes steps writes) → result ≡ 0
-        → PublishesAfresh (published writes) (O.held outbox.old) (O.held outbox.new)) }
-
-    // At every other status nothing is published, and before staging the outbox is not called.
+    // At every status but 0 nothing is published, and before staging the outbox is not called.
     ensures unpublished { result ≢ 0 → published_in (O.held outbox.new) ≡ published_in (O.held outbox.old) }
-    ensures uncalled { IsBeforeStaging result → outbox.new ≡ outbox.old }
+    ensures uncalled { IsUnstaged result → outbox.new ≡ outbox.old }
 
     // A check leaves the outbox as it was.
     ensures checked { IsCheck (texts words.now) → outbox.new ≡ outbox.old }
 
-    // Each fault of the outside has its cause in this call, and its line.
+    // Each fault of the outside has its cause in this call; that of the folder has its line.
     ensures folder_failed { result ≡ 4 → Rose (F.faults folder.old) (F.faults folder.new) }
     ensures outbox_failed { result ≡ 5 → Rose (O.faults outbox.old) (O.faults outbox.new) }
     ensures console_failed { result ≡ 6 → Rose (C.faults console.old) (C.faults console.new) }
-    ensures folder_told { result ≡ 4
-        → C.written console.new ≡ option_map (λ before. before ++ folder_line) (C.written console.old) }
-    ensures outbox_told { IfSome (F.files folder.old) (λ files. (verdict : Verdict)
-        → Due (texts words.now) files verdict → result ≡ 5
-        → TellsOutbox (text_of verdict) (C.written console.old) (C.written console.new)) }
+    ensures folder_told { result ≡ 4 → Gains (outside_line outside.Folder) (C.written console.old) (C.written console.new) }
     ensures continues { Continues (C.written console.old) (C.written console.new) }
 
-    // Whatever the folder tells, the words alone decide on the usage line, and then folder and outbox are as they were.
-    ensures usage { result ≡ 2 → IsUsage (texts words.now)
-        × (C.written console.new ≡ option_map (λ before. before ++ usage_line) (C.written console.old)) }
+    // The words alone decide on the usage line, and then folder and outbox are as they were.
+    ensures usage { result ≡ 2 → IsUsage (texts words.now) × Gains (refusal_line refusal.Usage) (C.written console.old) (C.written console.new) }
     ensures no_command { IsUsage (texts words.now)
         → ((result ≡ 2) ⊎ (result ≡ 6) ⊎ (result ≡ 7)) × (folder.new ≡ folder.old) × (outbox.new ≡ outbox.old) }
 
@@ -82,12 +75,14 @@ pub fn mitos<F: Folder, O: Outbox, C: Console>(
     ensures console_count { C.faults console.old ≤ C.faults console.new }
 {
     one_reading();
+    shelves_agree_with_their_files();
     let Some((task, name)) = command_of(words) else {
-        return tell(alloc, "", &Refused::Usage, console);
+        return tell(alloc, &Halt::Refused(Refusal::Usage), console);
     };
-    match perform(alloc, task, name, folder, outbox, console) {
+    let mut shelf = Shelf::new(alloc);
+    match perform(alloc, task, name, &mut shelf, folder, outbox, console) {
         Ok(()) => 0,
-        Err(refused) => tell(alloc, name, &refused, console),
+        Err(halt) => tell(alloc, &halt, console),
     }
 }
 
@@ -96,17 +91,18 @@ fn perform<F: Folder, O: Outbox, C: Console>(
     alloc: Global,
     task: Task,
     name: &str,
+    shelf: &mut Shelf,
     folder: &mut F,
     outbox: &mut O,
     console: &mut C,
-) -> Result<(), Refused>
-    ensures ends { IfSome (F.files folder.old) (λ files. EndsFor task name.now files (O.held outbox.old) (O.held outbox.new)
-        (C.written console.old) (C.written console.new) result) }
+) -> Result<(), Halt>
+    requires { IsLegal name.now }
+    ensures ends { (files : FileMap) → Agrees shelf.new files
+        → Ends O.held task name.now files outbox.old outbox.new (C.written console.old) (C.written console.new) result }
     ensures unpublished { OnErr result (published_in (O.held outbox.new) ≡ published_in (O.held outbox.old)) }
-    ensures uncalled { IfErr result (λ why. IfUnstaged why (outbox.new ≡ outbox.old)) }
-    ensures untold { IfErr result (λ why. IfUnstaged why (console.new ≡ console.old)) }
     ensures checked { IsCheckTask task → outbox.new ≡ outbox.old }
-    ensures failed { IfErr result (λ why. IfOutsideFails why (Rose (F.faults folder.old) (F.faults folder.new))
+    ensures agrees { IfSome (F.files folder.old) (λ files. Agrees shelf.old files → Agrees shelf.new files) }
+    ensures failed { IfErr result (λ halt. IfFailed halt (Rose (F.faults folder.old) (F.faults folder.new))
         (Rose (O.faults outbox.old) (O.faults outbox.new)) (Rose (C.faults console.old) (C.faults console.new))) }
     ensures continues { Continues (C.written console.old) (C.written console.new) }
     ensures told { F.files folder.new ≡ F.files folder.old }
@@ -117,29 +113,30 @@ fn perform<F: Folder, O: Outbox, C: Console>(
     match task {
         Task::Run => {
             let mut schedule = Seeded::new(alloc, 0);
-            let ended = attempt(alloc, name, &mut schedule, folder, outbox, console);
+            let ended = run_and_publish(alloc, name, &mut schedule, shelf, folder, outbox, console);
             drop(schedule);
             ended
         }
-        Task::Check { print } => inspect(alloc, name, print, folder, console),
+        Task::Check { print } => show(alloc, name, print, shelf, folder, console),
     }
 }
 
-/// Fetches, runs and publishes the script of this name.
-pub(crate) fn attempt<S: Schedule, F: Folder, O: Outbox, C: Console>(
+/// Runs the script of this name under a schedule, and publishes its files.
+pub(crate) fn run_and_publish<S: Schedule, F: Folder, O: Outbox, C: Console>(
     alloc: Global,
     name: &str,
     schedule: &mut S,
+    shelf: &mut Shelf,
     folder: &mut F,
     outbox: &mut O,
     console: &mut C,
-) -> Result<(), Refused>
-    ensures ends { IfSome (F.files folder.old) (λ files. EndsFor task.Run name.now files (O.held outbox.old) (O.held outbox.new)
-        (C.written console.old) (C.written console.new) result) }
+) -> Result<(), Halt>
+    requires { IsLegal name.now }
+    ensures ends { (files : FileMap) → Agrees shelf.new files
+        → Ends O.held task.Run name.now files outbox.old outbox.new (C.written console.old) (C.written console.new) result }
     ensures unpublished { OnErr result (published_in (O.held outbox.new) ≡ published_in (O.held outbox.old)) }
-    ensures uncalled { IfErr result (λ why. IfUnstaged why (outbox.new ≡ outbox.old)) }
-    ensures untold { IfErr result (λ why. IfUnstaged why (console.new ≡ console.old)) }
-    ensures failed { IfErr result (λ why. IfOutsideFails why (Rose (F.faults folder.old) (F.faults folder.new))
+    ensures agrees { IfSome (F.files folder.old) (λ files. Agrees shelf.old files → Agrees shelf.new files) }
+    ensures failed { IfErr result (λ halt. IfFailed halt (Rose (F.faults folder.old) (F.faults folder.new))
         (Rose (O.faults outbox.old) (O.faults outbox.new)) (Rose (C.faults console.old) (C.faults console.new))) }
     ensures continues { Continues (C.written console.old) (C.written console.new) }
     ensures told { F.files folder.new ≡ F.files folder.old }
@@ -147,28 +144,30 @@ pub(crate) fn attempt<S: Schedule, F: Folder, O: Outbox, C: Console>(
     ensures outbox_count { O.faults outbox.old ≤ O.faults outbox.new }
     ensures console_count { C.faults console.old ≤ C.faults console.new }
 {
-    let text = fetch(alloc, name, folder)?;
-    let done = match run(alloc, &text, schedule, folder) {
+    let typed = match read_script(alloc, name, shelf, folder) {
+        Ok(typed) => typed,
+        Err(halt) => return Err(halt),
+    };
+    let done = match run(alloc, &typed, schedule, shelf, folder) {
         Ok(done) => done,
-        Err(refused) => return Err(refused),
+        Err(halt) => return Err(halt),
     };
     publish(alloc, &done, outbox, console)
 }
 
-// Puts the line that tells why nothing is published, and answers the status.
-fn tell<C: Console>(alloc: Global, name: &str, refused: &Refused, console: &mut C) -> u8
-    ensures status { (result ≡ refused_status refused.now) ⊎ (result ≡ 6) ⊎ (result ≡ 7) }
-    ensures told { result ≡ refused_status refused.now → IfLine refused.now
-        (C.written console.new ≡ option_map (λ before. before ++ refused_line name.now refused.now) (C.written console.old)) }
-    ensures failed { result ≡ 6 → (refused.now ≡ Refused.Console) ⊎ Rose (C.faults console.old) (C.faults console.new) }
+// Puts the line that tells why a call did not come to its end, and answers the status.
+fn tell<C: Console>(alloc: Global, halt: &Halt, console: &mut C) -> u8
+    ensures status { (result ≡ halt_status halt.now) ⊎ (result ≡ 6) ⊎ (result ≡ 7) }
+    ensures told { result ≡ halt_status halt.now → IfLine halt.now (Gains (halt_line halt.now) (C.written console.old) (C.written console.new)) }
+    ensures failed { result ≡ 6 → (halt.now ≡ Halt.Failed Outside.Console) ⊎ Rose (C.faults console.old) (C.faults console.new) }
     ensures continues { Continues (C.written console.old) (C.written console.new) }
     ensures count { C.faults console.old ≤ C.faults console.new }
 {
-    if let Refused::Console = refused {
+    if let Halt::Failed(Outside::Console) = halt {
         return 6;
     }
-    match refusal(alloc, name, refused) {
-        Ok(text) => put(text.as_bytes(), refused.status(), console),
+    match halted(alloc, halt) {
+        Ok(text) => put(text.as_bytes(), halt.status(), console),
         Err(_) => put(b"out of memory\n", 7, console),
     }
 }
@@ -176,8 +175,7 @@ fn tell<C: Console>(alloc: Global, name: &str, refused: &Refused, console: &mut 
 // Puts one line, and answers this status.
 fn put<C: Console>(line: &[u8], status: u8, console: &mut C) -> u8
     ensures status { (result ≡ status) ⊎ (result ≡ 6) ⊎ (result ≡ 7) }
-    ensures told { status ≢ 6 → status ≢ 7 → result ≡ status
-        → C.written console.new ≡ option_map (λ before. before ++ line.now) (C.written console.old) }
+    ensures told { status ≢ 6 → status ≢ 7 → result ≡ status → Gains line.now (C.written console.old) (C.written console.new) }
     ensures failed { status ≢ 6 → result ≡ 6 → Rose (C.faults console.old) (C.faults console.new) }
     ensures continues { Continues (C.written console.old) (C.written console.new) }
     ensures count { C.faults console.old ≤ C.faults console.new }

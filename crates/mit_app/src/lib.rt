@@ -2,11 +2,12 @@
 #![tactic(auto)]
 
 mod call;
-mod inspect;
+mod check;
+mod ends;
 pub mod laws;
 mod lines;
-mod refused;
 mod run;
+mod script;
 #[cfg(test)]
 mod tests;
 mod thin;

@@ -1,8 +1,10 @@
+//! The lines of the console.
 ghost use Rattle.std.specs.Prelude.{◌≡◌, IfOk, string_bytes};
-ghost use Rattle.mit_app.specs.Lines.{accepted_line, code_words, fault_line, kind_words, rejected_line, report_line};
-ghost use Rattle.mit_app.specs.Refusals.{refused_line};
+ghost use Rattle.mit_app.specs.Ends.{halt_line};
+ghost use Rattle.mit_app.specs.Lines.{accepted_line, code_words, kind_words, outside_line, refusal_line, report_line};
+ghost use Rattle.mit_app.specs.declared.ends.Refusal.TheVariants as refusal;
 
-use crate::refused::Refused;
+use crate::ends::{Halt, Outside, Refusal};
 use mit_ops::{FaultKind, ScriptFault};
 use mit_script::CheckCode;
 use std::alloc::{AllocError, Global};
@@ -26,31 +28,48 @@ pub(crate) fn acceptance(alloc: Global, statements: u32) -> Result<String, Alloc
     format!(in alloc; "accepted, statements {statements}\n")
 }
 
-/// The line that tells why nothing is published, of a script of this name.
-pub(crate) fn refusal(alloc: Global, name: &str, refused: &Refused) -> Result<String, AllocError>
-    ensures { IfOk result (λ text. string_bytes text ≡ refused_line name.now refused.now) }
+/// The line that tells why a call did not come to its end; where the console failed, there is none.
+pub(crate) fn halted(alloc: Global, halt: &Halt) -> Result<String, AllocError>
+    ensures { IfOk result (λ text. string_bytes text ≡ halt_line halt.now) }
 {
-    match refused {
-        Refused::Usage => String::from_str(
-            alloc,
-            "usage: mitos run|step|check|plan SCRIPT, or mitos demo DAYS\n",
-        ),
-        Refused::Absent => format!(in alloc; "no such file: {name}\n"),
-        Refused::Misspelled(place) => {
-            format!(in alloc; "script refused: syntax at byte {place}\n")
-        }
-        Refused::Rejected { statement, code } => rejection(alloc, *statement, *code),
-        Refused::NotThin => String::from_str(alloc, "script refused: not a thin script\n"),
-        Refused::Fault(fault) => fault_text(alloc, fault),
-        Refused::Folder => String::from_str(alloc, "folder fault\n"),
-        Refused::Outbox => String::from_str(alloc, "outbox fault\n"),
-        Refused::Console => Ok(String::new(alloc)),
-        Refused::NoMemory => String::from_str(alloc, "out of memory\n"),
+    match halt {
+        Halt::Refused(why) => refused(alloc, why),
+        Halt::Failed(why) => String::from_str(alloc, failed(*why)),
     }
 }
 
-fn rejection(alloc: Global, statement: u32, code: CheckCode) -> Result<String, AllocError>
-    ensures { IfOk result (λ text. string_bytes text ≡ rejected_line statement code) }
+fn failed(why: Outside) -> &'static str
+    ensures { result.now ≡ outside_line why }
+{
+    match why {
+        Outside::Folder => "folder fault\n",
+        Outside::Outbox => "outbox fault\n",
+        Outside::Console => "",
+        Outside::NoMemory => "out of memory\n",
+    }
+}
+
+fn refused(alloc: Global, why: &Refusal) -> Result<String, AllocError>
+    ensures { IfOk result (λ text. string_bytes text ≡ refusal_line why.now) }
+{
+    match why {
+        Refusal::Usage => String::from_str(
+            alloc,
+            "usage: mitos run|step|check|plan SCRIPT, or mitos demo DAYS\n",
+        ),
+        Refusal::Absent(name) => {
+            let name = name.as_str();
+            format!(in alloc; "no such file: {name}\n")
+        }
+        Refusal::Syntax(place) => { format!(in alloc; "script refused: syntax at byte {place}\n") }
+        Refusal::Statement { statement, code } => rejected(alloc, *statement, *code),
+        Refusal::NotThin => String::from_str(alloc, "script refused: not a thin script\n"),
+        Refusal::Fault(fault) => faulted(alloc, fault),
+    }
+}
+
+fn rejected(alloc: Global, statement: u32, code: CheckCode) -> Result<String, AllocError>
+    ensures { IfOk result (λ text. string_bytes text ≡ refusal_line (refusal.Statement statement code)) }
 {
     let why = code_text(code);
     format!(in alloc; "script refused: statement {statement}, {why}\n")
@@ -68,8 +87,8 @@ fn code_text(code: CheckCode) -> &'static str
     }
 }
 
-fn fault_text(alloc: Global, fault: &ScriptFault) -> Result<String, AllocError>
-    ensures { IfOk result (λ text. string_bytes text ≡ fault_line fault.now.statement fault.now.decisions fault.now.kind) }
+fn faulted(alloc: Global, fault: &ScriptFault) -> Result<String, AllocError>
+    ensures { IfOk result (λ text. string_bytes text ≡ refusal_line (refusal.Fault fault.now)) }
 {
     let statement = fault.statement;
     let decisions = fault.decisions;

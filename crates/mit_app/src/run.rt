@@ -1,89 +1,49 @@
-ghost use Rattle.std.specs.Prelude.{◌≡◌, ◌≤◌, ◌++◌, Some, IfOk, IfErr, IfSome, OnOk, OnErr, option_map};
+//! Running an accepted script, and publishing its files.
+ghost use Rattle.std.specs.Prelude.{◌≡◌, ◌≤◌, IfErr, IfSome, OnErr};
 ghost use Rattle.std.specs.FinMap as fin;
-ghost use Rattle.mit_world.specs.Outside.{Rose};
-ghost use Rattle.mit_engine.specs.Staging.{published_in};
+ghost use Rattle.mit_world.specs.Files.{FileMap};
+ghost use Rattle.mit_world.specs.Outside.{Continues, Rose};
+ghost use Rattle.mit_shelf.specs.Shelf.{Agrees};
+ghost use Rattle.mit_shelf.specs.Staging.{published_in};
 ghost use Rattle.mit_script.specs.Trees.{IsNumbered};
-ghost use Rattle.mit_script.specs.Grammar.{IsSpelled};
-ghost use Rattle.mit_app.specs.Due.{PublishesAfresh};
+ghost use Rattle.mit_app.specs.Ends.{IfFailed, PublishesAs, RunsAs};
 ghost use Rattle.mit_app.specs.Lines.{report_line};
-ghost use Rattle.mit_app.specs.Refusals.{IfAbsent, IfOutsideFails, PublishingStops, RefusesText, RunsFor};
-ghost use Rattle.mit_app.specs.declared.words.Task.TheVariants as task;
 
+use crate::ends::{Halt, Outside, Refusal};
 use crate::lines::report;
-use crate::refused::Refused;
 use crate::thin::thin_of;
-use mit_check::{CheckStop, check};
-use mit_engine::{Done, Schedule, Stop, run_thin, stage_all};
-use mit_parse::{ParseStop, parse};
+use mit_engine::{Done, Schedule, run_thin};
 use mit_script::Typed;
+use mit_shelf::{Shelf, Stop, stage_all};
 use mit_world::{Console, Folder, Outbox, OutsideStop};
 use std::alloc::Global;
-
-/// The bytes of the script.
-pub(crate) fn fetch<F: Folder>(
-    alloc: Global,
-    name: &str,
-    folder: &mut F,
-) -> Result<Vec<u8>, Refused>
-    ensures text { IfSome (F.files folder.old) (λ files. IfOk result (λ text. fin.get files name.now ≡ Some text.items)) }
-    ensures absent { IfSome (F.files folder.old) (λ files. IfErr result (λ why. IfAbsent why (fin.get files name.now ≡ None))) }
-    ensures failed { IfErr result (λ why. IfOutsideFails why (Rose (F.faults folder.old) (F.faults folder.new)) ⊥ ⊥) }
-    ensures told { F.files folder.new ≡ F.files folder.old }
-    ensures count { F.faults folder.old ≤ F.faults folder.new }
-{
-    let mut text = Vec::new(alloc);
-    match folder.read(name, &mut text) {
-        Ok(true) => Ok(text),
-        Ok(false) => Err(Refused::Absent),
-        Err(OutsideStop::Failed) => Err(Refused::Folder),
-        Err(OutsideStop::NoMemory) => Err(Refused::NoMemory),
-    }
-}
-
-/// The accepted script of a text.
-pub(crate) fn accepted(alloc: Global, text: &[u8]) -> Result<Typed, Refused>
-    ensures spelled { IfOk result (λ typed. IsSpelled text.now typed.script) }
-    ensures numbered { IfOk result (λ typed. IsNumbered typed.script) }
-    ensures refused { IfErr result (RefusesText text.now) }
-{
-    let script = match parse(alloc, text) {
-        Ok(script) => script,
-        Err(ParseStop::Fault { place }) => return Err(Refused::Misspelled(place)),
-        Err(ParseStop::NoMemory) => return Err(Refused::NoMemory),
-    };
-    match check(alloc, script) {
-        Ok(typed) => Ok(typed),
-        Err(CheckStop::Fault { statement, code }) => Err(Refused::Rejected { statement, code }),
-        Err(CheckStop::NoMemory) => Err(Refused::NoMemory),
-    }
-}
 
 /// What a run of the script under this schedule leaves.
 pub(crate) fn run<S: Schedule, F: Folder>(
     alloc: Global,
-    text: &[u8],
+    typed: &Typed,
     schedule: &mut S,
+    shelf: &mut Shelf,
     folder: &mut F,
-) -> Result<Done, Refused>
-    ensures due { IfSome (F.files folder.old) (λ files. RunsFor task.Run text.now files result) }
-    ensures failed { IfErr result (λ why. IfOutsideFails why (Rose (F.faults folder.old) (F.faults folder.new)) ⊥ ⊥) }
+) -> Result<Done, Halt>
+    requires { IsNumbered typed.now.script }
+    ensures ran { (files : FileMap) → Agrees shelf.new files → RunsAs typed.now.script files result }
+    ensures grows { (files : FileMap) → Agrees shelf.new files → Agrees shelf.old files }
+    ensures agrees { IfSome (F.files folder.old) (λ files. Agrees shelf.old files → Agrees shelf.new files) }
+    ensures failed { IfErr result (λ halt. IfFailed halt (Rose (F.faults folder.old) (F.faults folder.new)) ⊥ ⊥) }
     ensures told { F.files folder.new ≡ F.files folder.old }
     ensures count { F.faults folder.old ≤ F.faults folder.new }
 {
-    let typed = match accepted(alloc, text) {
-        Ok(typed) => typed,
-        Err(refused) => return Err(refused),
-    };
     let script = match thin_of(alloc, typed.script()) {
         Ok(Some(script)) => script,
-        Ok(None) => return Err(Refused::NotThin),
-        Err(_) => return Err(Refused::NoMemory),
+        Ok(None) => return Err(Halt::Refused(Refusal::NotThin)),
+        Err(_) => return Err(Halt::Failed(Outside::NoMemory)),
     };
-    match run_thin(alloc, &script, folder, schedule) {
+    match run_thin(alloc, &script, shelf, folder, schedule) {
         Ok(done) => Ok(done),
-        Err(Stop::Fault(fault)) => Err(Refused::Fault(fault)),
-        Err(Stop::Folder) => Err(Refused::Folder),
-        Err(Stop::NoMemory) => Err(Refused::NoMemory),
+        Err(Stop::Fault(fault)) => Err(Halt::Refused(Refusal::Fault(fault))),
+        Err(Stop::Folder) => Err(Halt::Failed(Outside::Folder)),
+        Err(Stop::NoMemory) => Err(Halt::Failed(Outside::NoMemory)),
     }
 }
 
@@ -93,34 +53,31 @@ pub(crate) fn publish<O: Outbox, C: Console>(
     done: &Done,
     outbox: &mut O,
     console: &mut C,
-) -> Result<(), Refused>
-    ensures published { OnOk result (PublishesAfresh done.now.files (O.held outbox.old) (O.held outbox.new)) }
+) -> Result<(), Halt>
+    ensures published { PublishesAs done.now.files (report_line (fin.len done.now.files) done.now.blocks done.now.actions)
+        (O.held outbox.old) (O.held outbox.new) (C.written console.old) (C.written console.new) result }
     ensures unpublished { OnErr result (published_in (O.held outbox.new) ≡ published_in (O.held outbox.old)) }
-    ensures reported { OnOk result (C.written console.new
-        ≡ option_map (λ before. before ++ report_line (fin.len done.now.files) done.now.blocks done.now.actions) (C.written console.old)) }
-    ensures stopped { IfErr result (λ why. PublishingStops why
-        (report_line (fin.len done.now.files) done.now.blocks done.now.actions) (C.written console.old) (C.written console.new)) }
-    ensures failed { IfErr result (λ why. IfOutsideFails why ⊥ (Rose (O.faults outbox.old) (O.faults outbox.new)) (Rose (C.faults console.old) (C.faults console.new))) }
-    ensures staging_count { O.faults outbox.old ≤ O.faults outbox.new }
+    ensures continues { Continues (C.written console.old) (C.written console.new) }
+    ensures failed { IfErr result (λ halt. IfFailed halt ⊥ (Rose (O.faults outbox.old) (O.faults outbox.new)) (Rose (C.faults console.old) (C.faults console.new))) }
+    ensures outbox_count { O.faults outbox.old ≤ O.faults outbox.new }
     ensures console_count { C.faults console.old ≤ C.faults console.new }
 {
     match stage_all(&done.files, outbox) {
         Ok(()) => {}
-        Err(OutsideStop::Failed) => return Err(Refused::Outbox),
-        Err(OutsideStop::NoMemory) => return Err(Refused::NoMemory),
+        Err(OutsideStop::Failed) => return Err(Halt::Failed(Outside::Outbox)),
+        Err(OutsideStop::NoMemory) => return Err(Halt::Failed(Outside::NoMemory)),
     }
-    let report = match report(alloc, done.files.len(), done.blocks, done.actions) {
-        Ok(report) => report,
-        Err(_) => return Err(Refused::NoMemory),
+    let Ok(report) = report(alloc, done.files.len(), done.blocks, done.actions) else {
+        return Err(Halt::Failed(Outside::NoMemory));
     };
     match console.put(report.as_bytes()) {
         Ok(()) => {}
-        Err(OutsideStop::Failed) => return Err(Refused::Console),
-        Err(OutsideStop::NoMemory) => return Err(Refused::NoMemory),
+        Err(OutsideStop::Failed) => return Err(Halt::Failed(Outside::Console)),
+        Err(OutsideStop::NoMemory) => return Err(Halt::Failed(Outside::NoMemory)),
     }
     match outbox.publish() {
         Ok(()) => Ok(()),
-        Err(OutsideStop::Failed) => Err(Refused::Outbox),
-        Err(OutsideStop::NoMemory) => Err(Refused::NoMemory),
+        Err(OutsideStop::Failed) => Err(Halt::Failed(Outside::Outbox)),
+        Err(OutsideStop::NoMemory) => Err(Halt::Failed(Outside::NoMemory)),
     }
 }

@@ -1,5 +1,3 @@
-mod call;
-mod check;
 mod schedules;
 mod thin;
 mod world;

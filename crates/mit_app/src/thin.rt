@@ -5,11 +5,12 @@ ghost use Rattle.mit_rows.specs.declared.value.ColType.TheVariants.{Int};
 ghost use Rattle.mit_expr.specs.Types.{same_type};
 ghost use Rattle.mit_app.specs.ThinScript as spec;
 
-use mit_engine::{Name, Thin, ThinStep, legal_name};
+use mit_engine::{Thin, ThinStep};
 use mit_expr::Expr;
 use mit_ops::OpSpec;
 use mit_rows::{ColType, MAX_COLUMNS, Value};
 use mit_script::{Script, Stmt};
+use mit_shelf::{Name, legal_name};
 use std::alloc::{AllocError, Global};
 
 /// The most statements of a script that runs today.

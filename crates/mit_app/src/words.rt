@@ -3,7 +3,7 @@ ghost use Rattle.std.specs.Prelude.{ℕ, List, true, false, IfSome, IfNone};
 ghost use Rattle.mit_app.specs.Due.{IsCommand, IsUsage, texts};
 ghost use Rattle.mit_app.specs.declared.words.Task.TheVariants as task;
 
-use mit_engine::legal_name;
+use mit_shelf::legal_name;
 
 /// What is to be done with a script.
 #[derive(Clone, Copy, Debug, PartialEq, Eq)]

@@ -1,7 +1,8 @@
 use super::world::{files_with, published, told};
-use crate::call::attempt;
-use crate::lines::refusal;
+use crate::call::run_and_publish;
+use crate::lines::halted;
 use mit_engine::{Pick, Schedule, Seeded};
+use mit_shelf::{Shelf, legal_name};
 use mit_world::{MemConsole, MemFolder, MemOutbox};
 use std::alloc::{AllocError, Global};
 use std::marker::Model;
@@ -87,7 +88,7 @@ fn run_under<S: Schedule>(alloc: Global, script: &[u8], schedule: &mut S) -> Res
     left
 }
 
-/// What stands in the outbox behind an end.
+/// What stands in the outbox after an end.
 fn left_by(
     alloc: Global,
     end: Result<(u8, String), Fail>,
@@ -111,12 +112,19 @@ fn end_of<S: Schedule>(
     outbox: &mut MemOutbox,
     console: &mut MemConsole,
 ) -> Result<(u8, String), Fail> {
-    match attempt(alloc, "s", schedule, folder, outbox, console) {
+    let name = "s";
+    if !legal_name(name.as_bytes()) {
+        return Ok((0, String::from_str(alloc, "no legal name")?));
+    }
+    let mut shelf = Shelf::new(alloc);
+    let ended = run_and_publish(alloc, name, schedule, &mut shelf, folder, outbox, console);
+    drop(shelf);
+    match ended {
         Ok(()) => Ok((0, told(alloc, console)?)),
-        Err(refused) => {
-            let status = refused.status();
-            let line = refusal(alloc, "s", &refused);
-            drop(refused);
+        Err(halt) => {
+            let status = halt.status();
+            let line = halted(alloc, &halt);
+            drop(halt);
             Ok((status, line?))
         }
     }
@@ -215,7 +223,7 @@ fn ends_without_memory(
 
 // The picks of a job of ten actions find no memory in turn; the eleventh never comes.
 #[test]
-fn want_of_memory_in_a_pick_publishes_nothing(rt: HostRuntime) -> Result<(), Fail> {
+fn a_pick_without_memory_publishes_nothing(rt: HostRuntime) -> Result<(), Fail> {
     for fails in 1..11 {
         let left = ends_without_memory(&rt, fails, 7, 0)?;
         assert_eq!(rt; left.shown.as_str(), "out of memory\n");

@@ -1,54 +1,64 @@
+use Rattle.std.proofs.Common.{refl}
 use Rattle.mit_app.specs.Due.{texts}
-use Rattle.mit_app.proofs.EndLemmas.{done_comes, done_console, done_due, done_published, refused_comes, refused_console, refused_due, refused_outbox, same_written, usage_due}
+use Rattle.mit_app.proofs.EndLemmas.{agrees_first, answers_halted, answers_usage, answers_well, continues_both, empty_agrees, files_for, halted_folder, halted_uncalled, some_files}
+use Rattle.mit_app.proofs.TaskLemmas.{halted_apart}
 use Rattle.mit_app.proofs.call.mitos.Goals as goal
 
-pub returns-in-Ok-clause-due : goal.returns-in-Ok-clause-due
-returns-in-Ok-clause-due g c =
-    done_due (texts c.args.words.now) c.in-Some.task c.in-Some.name.now (g.F.Folder.files c.args.folder.now) (g.O.Outbox.held c.args.outbox.now) (g.O.Outbox.held c.perform.new.outbox)
-    (g.C.Console.written c.args.console.now) (g.C.Console.written c.perform.new.console) c.in-Ok.field-0 c.in-Some.ensures.command c.in-Ok.ensures.ends
+pub returns-in_default-clause-answers : goal.returns-in_default-clause-answers
+returns-in_default-clause-answers g c =
+    let found = some_files (g.F.Folder.files c.args.folder.now) in (
+      found.0,
+      found.1,
+      answers_usage g.O.Outbox.held (texts c.args.words.now) found.0 c.tell.result c.args.outbox.now c.args.outbox.now (g.C.Console.written c.args.console.now)
+          (g.C.Console.written c.tell.new.console) c.in_default.ensures.other refl c.tell.ensures.status c.tell.ensures.told,
+    )
 
-pub returns-in-Ok-clause-comes : goal.returns-in-Ok-clause-comes
-returns-in-Ok-clause-comes g c =
-    done_comes (texts c.args.words.now) c.in-Some.task c.in-Some.name.now (g.F.Folder.files c.args.folder.now) (g.O.Outbox.held c.args.outbox.now) (g.O.Outbox.held c.perform.new.outbox)
-    (g.C.Console.written c.args.console.now) (g.C.Console.written c.perform.new.console) c.in-Ok.field-0 (record { script = c.one_reading.ensures.script; place = c.one_reading.ensures.place; either = c.one_reading.ensures.either }) c.in-Some.ensures.command c.in-Ok.ensures.ends
+pub returns-in-Ok-clause-answers : goal.returns-in-Ok-clause-answers
+returns-in-Ok-clause-answers g c =
+    let found = files_for (g.F.Folder.files c.args.folder.now) c.perform.new.shelf c.shelves_agree_with_their_files.ensures.agree
+    (agrees_first (g.F.Folder.files c.args.folder.now) c.new-shelf.result c.perform.new.shelf (empty_agrees c.new-shelf.result c.new-shelf.ensures) c.perform.ensures.agrees) in (
+      found.0,
+      found.1,
+      answers_well g.O.Outbox.held (texts c.args.words.now) c.in-Some.task c.in-Some.name.now found.0 c.args.outbox.now c.perform.new.outbox
+          (g.C.Console.written c.args.console.now) (g.C.Console.written c.perform.new.console)
+          (record { script = c.one_reading.ensures.script; place = c.one_reading.ensures.place; either = c.one_reading.ensures.either; read = c.one_reading.ensures.read })
+          c.in-Some.ensures.command (c.in-Ok.ensures.ends found.0 found.2),
+    )
 
-pub returns-in-Ok-clause-console : goal.returns-in-Ok-clause-console
-returns-in-Ok-clause-console g c =
-    done_console (texts c.args.words.now) c.in-Some.task c.in-Some.name.now (g.F.Folder.files c.args.folder.now) (g.O.Outbox.held c.args.outbox.now) (g.O.Outbox.held c.perform.new.outbox)
-    (g.C.Console.written c.args.console.now) (g.C.Console.written c.perform.new.console) c.in-Ok.field-0 (record { script = c.one_reading.ensures.script; place = c.one_reading.ensures.place; either = c.one_reading.ensures.either }) c.in-Some.ensures.command c.in-Ok.ensures.ends
+pub returns-clause-answers : goal.returns-clause-answers
+returns-clause-answers g c =
+    let found = files_for (g.F.Folder.files c.args.folder.now) c.perform.new.shelf c.shelves_agree_with_their_files.ensures.agree
+    (agrees_first (g.F.Folder.files c.args.folder.now) c.new-shelf.result c.perform.new.shelf (empty_agrees c.new-shelf.result c.new-shelf.ensures) c.perform.ensures.agrees) in (
+      found.0,
+      found.1,
+      answers_halted g.O.Outbox.held (texts c.args.words.now) c.in-Some.task c.in-Some.name.now found.0 c.tell-in-Err.result c.args.outbox.now c.perform.new.outbox
+          (g.C.Console.written c.args.console.now) (g.C.Console.written c.perform.new.console) (g.C.Console.written c.tell-in-Err.new.console) c.in-Err.halt
+          (record { script = c.one_reading.ensures.script; place = c.one_reading.ensures.place; either = c.one_reading.ensures.either; read = c.one_reading.ensures.read })
+          c.in-Some.ensures.command (c.in-Err.ensures.ends found.0 found.2) c.tell-in-Err.ensures.status c.tell-in-Err.ensures.told,
+    )
 
-pub returns-in-Ok-clause-published : goal.returns-in-Ok-clause-published
-returns-in-Ok-clause-published g c =
-    done_published (texts c.args.words.now) c.in-Some.task c.in-Some.name.now (g.F.Folder.files c.args.folder.now) (g.O.Outbox.held c.args.outbox.now) (g.O.Outbox.held c.perform.new.outbox)
-    (g.C.Console.written c.args.console.now) (g.C.Console.written c.perform.new.console) c.in-Ok.field-0 (record { script = c.one_reading.ensures.script; place = c.one_reading.ensures.place; either = c.one_reading.ensures.either }) c.in-Some.ensures.command c.in-Ok.ensures.ends
+pub returns-clause-uncalled : goal.returns-clause-uncalled
+returns-clause-uncalled g c = λ early.
+    let found = files_for (g.F.Folder.files c.args.folder.now) c.perform.new.shelf c.shelves_agree_with_their_files.ensures.agree
+    (agrees_first (g.F.Folder.files c.args.folder.now) c.new-shelf.result c.perform.new.shelf (empty_agrees c.new-shelf.result c.new-shelf.ensures) c.perform.ensures.agrees) in
+    halted_uncalled g.O.Outbox.held c.in-Some.task c.in-Some.name.now found.0 c.tell-in-Err.result c.args.outbox.now c.perform.new.outbox (g.C.Console.written c.args.console.now) (g.C.Console.written c.perform.new.console)
+    c.in-Err.halt (c.in-Err.ensures.ends found.0 found.2) c.tell-in-Err.ensures.status early
 
-pub returns-in-Err-clause-due : goal.returns-in-Err-clause-due
-returns-in-Err-clause-due g c =
-    refused_due (texts c.args.words.now) c.in-Some.task c.in-Some.name.now (g.F.Folder.files c.args.folder.now) (g.O.Outbox.held c.args.outbox.now) (g.O.Outbox.held c.perform.new.outbox)
-    (g.C.Console.written c.args.console.now) (g.C.Console.written c.perform.new.console)
-    (g.C.Console.written c.tell-in-Err.new.console) c.tell-in-Err.result c.in-Err.refused c.in-Some.ensures.command c.in-Err.ensures.ends
-    (same_written g.C.Console.written c.in-Err.refused c.perform.new.console c.args.console.now c.in-Err.ensures.untold) c.tell-in-Err.ensures.told c.tell-in-Err.ensures.status
+pub returns-clause-folder_told : goal.returns-clause-folder_told
+returns-clause-folder_told g c = λ four.
+    let found = files_for (g.F.Folder.files c.args.folder.now) c.perform.new.shelf c.shelves_agree_with_their_files.ensures.agree
+    (agrees_first (g.F.Folder.files c.args.folder.now) c.new-shelf.result c.perform.new.shelf (empty_agrees c.new-shelf.result c.new-shelf.ensures) c.perform.ensures.agrees) in
+    halted_folder g.O.Outbox.held c.in-Some.task c.in-Some.name.now found.0 c.tell-in-Err.result c.args.outbox.now c.perform.new.outbox (g.C.Console.written c.args.console.now) (g.C.Console.written c.perform.new.console)
+    (g.C.Console.written c.tell-in-Err.new.console) c.in-Err.halt (c.in-Err.ensures.ends found.0 found.2) c.tell-in-Err.ensures.status c.tell-in-Err.ensures.told four
 
-pub returns-in-Err-clause-comes : goal.returns-in-Err-clause-comes
-returns-in-Err-clause-comes g c =
-    refused_comes (texts c.args.words.now) c.in-Some.task c.in-Some.name.now (g.F.Folder.files c.args.folder.now) (g.O.Outbox.held c.args.outbox.now) (g.O.Outbox.held c.perform.new.outbox)
-    (g.C.Console.written c.args.console.now) (g.C.Console.written c.perform.new.console)
-    (g.C.Console.written c.tell-in-Err.new.console) c.tell-in-Err.result c.in-Err.refused (record { script = c.one_reading.ensures.script; place = c.one_reading.ensures.place; either = c.one_reading.ensures.either }) c.in-Some.ensures.command c.in-Err.ensures.ends
-    (same_written g.C.Console.written c.in-Err.refused c.perform.new.console c.args.console.now c.in-Err.ensures.untold) c.tell-in-Err.ensures.told c.tell-in-Err.ensures.status
+pub returns-clause-usage : goal.returns-clause-usage
+returns-clause-usage g c = λ two.
+    let found = files_for (g.F.Folder.files c.args.folder.now) c.perform.new.shelf c.shelves_agree_with_their_files.ensures.agree
+    (agrees_first (g.F.Folder.files c.args.folder.now) c.new-shelf.result c.perform.new.shelf (empty_agrees c.new-shelf.result c.new-shelf.ensures) c.perform.ensures.agrees) in
+    absurd (halted_apart g.O.Outbox.held c.in-Some.task c.in-Some.name.now found.0 c.tell-in-Err.result c.args.outbox.now c.perform.new.outbox (g.C.Console.written c.args.console.now) (g.C.Console.written c.perform.new.console)
+    c.in-Err.halt (c.in-Err.ensures.ends found.0 found.2) c.tell-in-Err.ensures.status two)
 
-pub returns-in-Err-clause-console : goal.returns-in-Err-clause-console
-returns-in-Err-clause-console g c =
-    refused_console (texts c.args.words.now) c.in-Some.task c.in-Some.name.now (g.F.Folder.files c.args.folder.now) (g.O.Outbox.held c.args.outbox.now) (g.O.Outbox.held c.perform.new.outbox)
-    (g.C.Console.written c.args.console.now) (g.C.Console.written c.perform.new.console)
-    (g.C.Console.written c.tell-in-Err.new.console) c.tell-in-Err.result c.in-Err.refused (record { script = c.one_reading.ensures.script; place = c.one_reading.ensures.place; either = c.one_reading.ensures.either }) c.in-Some.ensures.command c.in-Err.ensures.ends
-    (same_written g.C.Console.written c.in-Err.refused c.perform.new.console c.args.console.now c.in-Err.ensures.untold) c.tell-in-Err.ensures.told c.tell-in-Err.ensures.status
-
-pub returns-in-Err-clause-outbox_told : goal.returns-in-Err-clause-outbox_told
-returns-in-Err-clause-outbox_told g c =
-    refused_outbox (texts c.args.words.now) c.in-Some.task c.in-Some.name.now (g.F.Folder.files c.args.folder.now) (g.O.Outbox.held c.args.outbox.now) (g.O.Outbox.held c.perform.new.outbox)
-    (g.C.Console.written c.args.console.now) (g.C.Console.written c.perform.new.console)
-    (g.C.Console.written c.tell-in-Err.new.console) c.tell-in-Err.result c.in-Err.refused (record { script = c.one_reading.ensures.script; place = c.one_reading.ensures.place; either = c.one_reading.ensures.either }) c.in-Some.ensures.command c.in-Err.ensures.ends c.tell-in-Err.ensures.told c.tell-in-Err.ensures.status
-
-pub returns-in_default-clause-due : goal.returns-in_default-clause-due
-returns-in_default-clause-due g c =
-    usage_due (texts c.args.words.now) (g.F.Folder.files c.args.folder.now) c.tell.result c.in_default.ensures.other c.tell.ensures.status
+pub returns-clause-continues : goal.returns-clause-continues
+returns-clause-continues g c =
+    continues_both (g.C.Console.written c.args.console.now) (g.C.Console.written c.perform.new.console) (g.C.Console.written c.tell-in-Err.new.console)
+    c.in-Err.ensures.continues c.tell-in-Err.ensures.continues

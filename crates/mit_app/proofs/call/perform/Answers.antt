@@ -1,7 +1,12 @@
-use Rattle.mit_app.proofs.EndLemmas.{checked_ends}
+use Rattle.std.proofs.Common.{subst, sym}
+use Rattle.mit_app.specs.Ends.{Ends}
+use Rattle.mit_app.specs.declared.words.Task.{Task}
+use Rattle.mit_app.proofs.TaskLemmas.{showing_ends}
 use Rattle.mit_app.proofs.call.perform.Goals as goal
 
 pub returns-in-Check-clause-ends : goal.returns-in-Check-clause-ends
-returns-in-Check-clause-ends g c =
-    checked_ends c.args.task c.in-Check.print c.args.name.now (g.F.Folder.files c.args.folder.now) (g.O.Outbox.held c.args.outbox.now) (g.O.Outbox.held c.args.outbox.now)
-    (g.C.Console.written c.args.console.now) (g.C.Console.written c.inspect.new.console) c.inspect.result c.in-Check.is c.inspect.ensures.ends
+returns-in-Check-clause-ends g c = λ files agrees.
+    subst (λ (t : Task). Ends g.O.Outbox.held t c.args.name.now files c.args.outbox.now c.args.outbox.now (g.C.Console.written c.args.console.now)
+    (g.C.Console.written c.show.new.console) c.show.result) (sym c.in-Check.is)
+    (showing_ends g.O.Outbox.held c.in-Check.print c.args.name.now files c.args.outbox.now (g.C.Console.written c.args.console.now)
+    (g.C.Console.written c.show.new.console) c.show.result (c.show.ensures.shown files agrees))

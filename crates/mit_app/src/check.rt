@@ -1,16 +1,19 @@
 //! The command `check`.
-ghost use Rattle.std.specs.Prelude.{◌≡◌, ◌≤◌, ◌++◌, [], if◌then◌else◌, Option, IfOk, IfErr, IfSome};
-ghost use Rattle.mit_world.specs.Outside.{Continues, Held, Rose};
+ghost use Rattle.std.specs.Prelude.{◌≡◌, ◌≤◌, ◌++◌, [], if◌then◌else◌, IfErr, IfOk, IfSome};
+ghost use Rattle.mit_world.specs.Files.{FileMap};
+ghost use Rattle.mit_world.specs.Outside.{Continues, Rose};
+ghost use Rattle.mit_shelf.specs.Names.{IsLegal};
+ghost use Rattle.mit_shelf.specs.Shelf.{Agrees};
 ghost use Rattle.mit_script.specs.Printed.{printed};
 ghost use Rattle.mit_script.specs.Trees.{IsFormed, statements_of};
+ghost use Rattle.mit_app.specs.Ends.{IfFailed, ShowsAs};
 ghost use Rattle.mit_app.specs.Lines.{accepted_line};
-ghost use Rattle.mit_app.specs.Refusals.{EndsFor, IfOutsideFails, IfUnstaged};
-ghost use Rattle.mit_app.specs.declared.words.Task.TheVariants as task;
 
+use crate::ends::{Halt, Outside};
 use crate::lines::acceptance;
-use crate::refused::Refused;
-use crate::run::{accepted, fetch};
+use crate::script::read_script;
 use mit_script::{Script, print, statements};
+use mit_shelf::Shelf;
 use mit_world::{Console, Folder, OutsideStop};
 use std::alloc::{AllocError, Global};
 
@@ -30,34 +33,36 @@ fn shown(alloc: Global, script: &Script, print_it: bool) -> Result<Vec<u8>, Allo
 }
 
 /// Fetches, checks and shows the script of this name.
-pub(crate) fn inspect<F: Folder, C: Console>(
+pub(crate) fn show<F: Folder, C: Console>(
     alloc: Global,
     name: &str,
     print_it: bool,
+    shelf: &mut Shelf,
     folder: &mut F,
     console: &mut C,
-) -> Result<(), Refused>
-    ensures ends { IfSome (F.files folder.old) (λ files. (held later : Option Held)
-        → EndsFor (task.Check print_it) name.now files held later (C.written console.old) (C.written console.new) result) }
-    ensures untold { IfErr result (λ why. IfUnstaged why (console.new ≡ console.old)) }
-    ensures failed { IfErr result (λ why. IfOutsideFails why (Rose (F.faults folder.old) (F.faults folder.new))
+) -> Result<(), Halt>
+    requires { IsLegal name.now }
+    ensures shown { (files : FileMap) → Agrees shelf.new files
+        → ShowsAs print_it name.now files (C.written console.old) (C.written console.new) result }
+    ensures grows { (files : FileMap) → Agrees shelf.new files → Agrees shelf.old files }
+    ensures agrees { IfSome (F.files folder.old) (λ files. Agrees shelf.old files → Agrees shelf.new files) }
+    ensures failed { IfErr result (λ halt. IfFailed halt (Rose (F.faults folder.old) (F.faults folder.new))
         ⊥ (Rose (C.faults console.old) (C.faults console.new))) }
     ensures continues { Continues (C.written console.old) (C.written console.new) }
     ensures told { F.files folder.new ≡ F.files folder.old }
     ensures folder_count { F.faults folder.old ≤ F.faults folder.new }
     ensures console_count { C.faults console.old ≤ C.faults console.new }
 {
-    let text = fetch(alloc, name, folder)?;
-    let typed = match accepted(alloc, &text) {
+    let typed = match read_script(alloc, name, shelf, folder) {
         Ok(typed) => typed,
-        Err(refused) => return Err(refused),
+        Err(halt) => return Err(halt),
     };
     let Ok(shown) = shown(alloc, typed.script(), print_it) else {
-        return Err(Refused::NoMemory);
+        return Err(Halt::Failed(Outside::NoMemory));
     };
     match console.put(&shown) {
         Ok(()) => Ok(()),
-        Err(OutsideStop::Failed) => Err(Refused::Console),
-        Err(OutsideStop::NoMemory) => Err(Refused::NoMemory),
+        Err(OutsideStop::Failed) => Err(Halt::Failed(Outside::Console)),
+        Err(OutsideStop::NoMemory) => Err(Halt::Failed(Outside::NoMemory)),
     }
 }

@@ -1,0 +1,140 @@
+-- The words of the private contracts inside the top call: how its parts end. Nobody has to believe them.
+use Rattle.std.specs.Prelude.{◌≡◌, ⊤, ◌⊎◌, ◌<◌, ◌≤◌, ℕ, List, Bool, Option, Some, Result, Ok, Err}
+use Rattle.std.specs.FinMap as fin
+use Rattle.mit_world.specs.Files.{FileMap}
+use Rattle.mit_world.specs.Outside.{Held}
+use Rattle.mit_engine.specs.Thin.{actions_of}
+use Rattle.mit_engine.specs.declared.thin.Done.{Done}
+use Rattle.mit_engine.specs.declared.thin.ThinStep.{ThinStep}
+use Rattle.mit_script.specs.declared.tree.Script.{Script}
+use Rattle.mit_script.specs.declared.typed.Typed.{Typed}
+use Rattle.mit_app.specs.Answers.{Gains, Leaves, PublishesAll, Stages}
+use Rattle.mit_app.specs.Due.{Accepted, DueFor, Found, IsFound, IsFoundIn, Publishes, Refused, Verdict, status_of, task_verdict, text_of, verdict_for}
+use Rattle.mit_app.specs.Lines.{outside_line, refusal_line}
+use Rattle.mit_app.specs.Statuses.{outside_status, refusal_status}
+use Rattle.mit_app.specs.ThinScript.{thin_steps}
+use Rattle.mit_app.specs.declared.ends.Halt.{Halt}
+use Rattle.mit_app.specs.declared.ends.Halt.TheVariants as halt
+use Rattle.mit_app.specs.declared.ends.Outside.{Outside}
+use Rattle.mit_app.specs.declared.ends.Outside.TheVariants as outside
+use Rattle.mit_app.specs.declared.words.Task.{Task}
+use Rattle.mit_app.specs.declared.words.Task.TheVariants.{Run, Check}
+
+-- ---- statuses, lines and causes
+
+abbrev pub halt_status : Halt → ℕ
+halt_status (halt.Refused why) = refusal_status why
+halt_status (halt.Failed why) = outside_status why
+
+abbrev pub halt_line : Halt → List ℕ
+halt_line (halt.Refused why) = refusal_line why
+halt_line (halt.Failed why) = outside_line why
+
+-- a fact where the folder failed, where the outbox failed and where the console failed
+abbrev pub IfFailed : Halt → Type 0 → Type 0 → Type 0 → Type 0
+IfFailed (halt.Refused why) folder outbox console = ⊤
+IfFailed (halt.Failed outside.Folder) folder outbox console = folder
+IfFailed (halt.Failed outside.Outbox) folder outbox console = outbox
+IfFailed (halt.Failed outside.Console) folder outbox console = console
+IfFailed (halt.Failed outside.NoMemory) folder outbox console = ⊤
+
+-- a fact where there is a line to put
+abbrev pub IfLine : Halt → Type 0 → Type 0
+IfLine (halt.Refused why) fact = fact
+IfLine (halt.Failed outside.Folder) fact = fact
+IfLine (halt.Failed outside.Outbox) fact = fact
+IfLine (halt.Failed outside.Console) fact = ⊤
+IfLine (halt.Failed outside.NoMemory) fact = ⊤
+
+abbrev pub IsCheckTask : Task → Type 0
+IsCheckTask Run = ⊥
+IsCheckTask (Check shown) = ⊤
+
+-- ---- reading, running and publishing
+
+-- an accepted script is found in a text, or what is found there is refused for every task
+abbrev pub ReadsAs : List ℕ → Result Typed Halt → Type 0
+ReadsAs text (Ok typed) = IsFoundIn (Some text) (Accepted typed.script)
+ReadsAs text (Err (halt.Refused why)) = (found : Found) × IsFoundIn (Some text) found
+    × ((task : Task) (name : List ℕ) (files : FileMap) → Refused why ≡ verdict_for task name files found)
+ReadsAs text (Err (halt.Failed why)) = ⊤
+
+-- the same under a name
+abbrev pub FindsAs : List ℕ → FileMap → Result Typed Halt → Type 0
+FindsAs name files (Ok typed) = IsFound files name (Accepted typed.script)
+FindsAs name files (Err (halt.Refused why)) = (task : Task) → DueFor task name files (Refused why)
+FindsAs name files (Err (halt.Failed why)) = ⊤
+
+-- an accepted script is found under the name, and its run, where it can be run, takes so many actions
+abbrev pub Counted : List ℕ → FileMap → ℕ → Type 0
+Counted name files actions = (script : Script) × IsFound files name (Accepted script)
+    × ((steps : List ThinStep) → thin_steps script ≡ Some steps → actions ≡ actions_of steps)
+
+-- a run of an accepted script came to its end, or not
+abbrev pub RunsAs : Script → FileMap → Result Done Halt → Type 0
+RunsAs script files (Ok done) = (task_verdict Run files script ≡ Publishes done.files done.blocks)
+    × ((steps : List ThinStep) → thin_steps script ≡ Some steps → done.actions ≡ actions_of steps)
+RunsAs script files (Err (halt.Refused why)) = task_verdict Run files script ≡ Refused why
+RunsAs script files (Err (halt.Failed why)) = ⊤
+
+-- so many of these files are staged
+abbrev pub StagesSome : FileMap → Option Held → Option Held → Type 0
+StagesSome files old new = (count : ℕ) × (count ≤ fin.len files) × Stages count files old new
+
+-- the same, and the report was printed exactly where all of them are
+abbrev pub StopsStaging : FileMap → List ℕ → Option Held → Option Held → Option (List ℕ) → Option (List ℕ) → Type 0
+StopsStaging files report old new written written' =
+    ((count : ℕ) × (count < fin.len files) × Stages count files old new × (written' ≡ written))
+    ⊎ (Stages (fin.len files) files old new × Gains report written written')
+
+-- these files and this report were published, or not
+abbrev pub PublishesAs : FileMap → List ℕ → Option Held → Option Held → Option (List ℕ) → Option (List ℕ) → Result (Unit {0}) Halt → Type 0
+PublishesAs files report old new written written' (Ok _) = PublishesAll files old new × Gains report written written'
+PublishesAs files report old new written written' (Err (halt.Refused why)) = ⊥
+PublishesAs files report old new written written' (Err (halt.Failed outside.Folder)) = ⊥
+PublishesAs files report old new written written' (Err (halt.Failed outside.Outbox)) = StopsStaging files report old new written written'
+PublishesAs files report old new written written' (Err (halt.Failed outside.Console)) = StagesSome files old new
+PublishesAs files report old new written written' (Err (halt.Failed outside.NoMemory)) = StagesSome files old new
+
+-- an accepted script was shown, or not
+abbrev pub ShowsAs : Bool → List ℕ → FileMap → Option (List ℕ) → Option (List ℕ) → Result (Unit {0}) Halt → Type 0
+ShowsAs shown name files written written' (Ok _) =
+    (script : Script) × IsFound files name (Accepted script) × Gains (text_of (task_verdict (Check shown) files script) 0) written written'
+ShowsAs shown name files written written' (Err (halt.Refused why)) = DueFor (Check shown) name files (Refused why) × (written' ≡ written)
+ShowsAs shown name files written written' (Err (halt.Failed outside.Folder)) = written' ≡ written
+ShowsAs shown name files written written' (Err (halt.Failed outside.Outbox)) = ⊥
+ShowsAs shown name files written written' (Err (halt.Failed outside.Console)) = ⊤
+ShowsAs shown name files written written' (Err (halt.Failed outside.NoMemory)) = ⊤
+
+-- ---- a task
+
+-- what is due came to its end
+pub record EndsWell {O : Type 0} (held : O → Option Held) (task : Task) (name : List ℕ) (files : FileMap) (old new : O) (written written' : Option (List ℕ)) : Type 0 where
+  pub verdict : Verdict
+  pub due : DueFor task name files verdict
+  pub well : status_of verdict ≡ 0
+  pub actions : ℕ
+  pub counted : Counted name files actions
+  pub text : Gains (text_of verdict actions) written written'
+  pub outbox : Leaves held verdict actions 0 old new written written'
+
+-- a publication was due and stopped
+pub record EndsStaging (name : List ℕ) (files : FileMap) (Stopped : FileMap → List ℕ → Type 0) : Type 0 where
+  pub published : FileMap
+  pub blocks : ℕ
+  pub due : DueFor Run name files (Publishes published blocks)
+  pub actions : ℕ
+  pub counted : Counted name files actions
+  pub stopped : Stopped published (text_of (Publishes published blocks) actions)
+
+-- a task with a script of this name ended; where nothing was published, outbox and console may be as they were
+abbrev pub Ends : {O : Type 0} → (O → Option Held) → Task → List ℕ → FileMap → O → O → Option (List ℕ) → Option (List ℕ) → Result (Unit {0}) Halt → Type 0
+Ends held task name files old new written written' (Ok _) = EndsWell held task name files old new written written'
+Ends held task name files old new written written' (Err (halt.Refused why)) = DueFor task name files (Refused why) × (new ≡ old) × (written' ≡ written)
+Ends held task name files old new written written' (Err (halt.Failed outside.Folder)) = (new ≡ old) × (written' ≡ written)
+Ends held task name files old new written written' (Err (halt.Failed outside.Outbox)) =
+    (task ≡ Run) × EndsStaging name files (λ published report. StopsStaging published report (held old) (held new) written written')
+Ends held task name files old new written written' (Err (halt.Failed outside.Console)) =
+    (new ≡ old) ⊎ ((task ≡ Run) × EndsStaging name files (λ published report. StagesSome published (held old) (held new)))
+Ends held task name files old new written written' (Err (halt.Failed outside.NoMemory)) =
+    (new ≡ old) ⊎ ((task ≡ Run) × EndsStaging name files (λ published report. StagesSome published (held old) (held new)))
