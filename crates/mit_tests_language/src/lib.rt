@@ -1,0 +1,18 @@
+//! Tests of the language: the values and types of expressions, the types of operators, the tokens of a script, its printed
+//! text, its parser and its check.
+#![tactic(auto)]
+
+#[cfg(test)]
+mod check;
+#[cfg(test)]
+mod expr;
+#[cfg(test)]
+mod given;
+#[cfg(test)]
+mod lex;
+#[cfg(test)]
+mod ops;
+#[cfg(test)]
+mod parse;
+#[cfg(test)]
+mod script;
