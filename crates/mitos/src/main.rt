@@ -15,7 +15,7 @@ fn main(rt: HostRuntime) -> ExitCode {
     ExitCode::from(run(rt).unwrap_or(OUT_OF_MEMORY))
 }
 
-fn run<R: Env + Files + Print + AllocGlobal + Clone + Drop>(rt: R) -> io::Result<u8> {
+fn run<R: Env + Files + Print + Eprint + AllocGlobal + Clone + Drop>(rt: R) -> io::Result<u8> {
     let words = words(&rt)?;
     let mut folder = HostFolder::new(rt.clone()?);
     let mut outbox = HostOutbox::new(rt.clone()?);
