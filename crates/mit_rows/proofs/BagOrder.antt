@@ -105,7 +105,7 @@ bag_of_moved (row ∷ rows) =
     IsPermutation-trans (row ∷ rows) (row ∷ bag_of rows) (insert_row row (bag_of rows)) (IsPermutation-cons row rows (bag_of rows) (bag_of_moved rows)) (insert_row_moved row (bag_of rows))
 
 -- a rising list that holds each row as often is the bag
-bag_from_rising : (rows sorted : List RowOf) → Rising row_cmp sorted → ((z : RowOf) → tally row_cmp z sorted ≡ tally row_cmp z rows) → sorted ≡ bag_of rows
+pub bag_from_rising : (rows sorted : List RowOf) → Rising row_cmp sorted → ((z : RowOf) → tally row_cmp z sorted ≡ tally row_cmp z rows) → sorted ≡ bag_of rows
 bag_from_rising rows sorted up t = same_list row_cmp_total row_cmp-IsAntisymmetric sorted (bag_of rows) up (rising-bag_of rows) (λ z. t z ∙ sym (tally-bag_of z rows))
 
 pub bag_from_sorted : (rows sorted : List RowOf) → IsPermutation rows sorted → IsSorted row_cmp sorted → sorted ≡ bag_of rows

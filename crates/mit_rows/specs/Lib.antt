@@ -1,4 +1,5 @@
 pub mod Order
 pub mod Bags
 pub mod Stored
+pub mod Merging
 pub mod Integers

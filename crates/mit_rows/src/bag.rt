@@ -1,9 +1,13 @@
-ghost use Rattle.std.specs.Prelude.{◌≡◌, IfOk};
+ghost use Rattle.std.specs.Prelude.{◌≡◌, ◌<◌, ◌+◌, ◌++◌, ◌↔◌, IfOk, IfSome, IsSome, length, option_to_list, vec_len};
 ghost use Rattle.mit_rows.specs.Bags.{IsBag, bag_of, bag_sum};
+ghost use Rattle.mit_rows.specs.Merging.{IsSideOf, TakesGreatest};
 
 use crate::row::{Row, cmp_rows};
 use std::alloc::{AllocError, Global};
 use std::marker::Model;
+
+/// After how many rows a list that shrinks lets go of memory.
+const ROWS_KEPT: usize = 65_536;
 
 /// A finite multiset of rows, which contracts see as its sorted list.
 #[derive(Debug, Drop)]
@@ -29,27 +33,40 @@ impl Bag {
     pub fn from_rows(mut rows: Vec<Row>) -> Result<Bag, AllocError>
         ensures { IfOk result (λ bag. bag ≡ bag_of rows.items) }
     {
-        rows.sort_by(cmp_rows)?;
+        rows.sort_unstable_by(cmp_rows);
         Ok(Bag { rows })
     }
 
     /// The sum of these bags: how often a row stands in each, added. `bags` are dropped where memory runs out.
-    pub fn join_all(alloc: Global, mut bags: Vec<Bag>) -> Result<Bag, AllocError>
+    pub fn join_all(alloc: Global, bags: Vec<Bag>) -> Result<Bag, AllocError>
         ensures { IfOk result (λ bag. bag ≡ bag_sum bags.items) }
     {
-        if bags.len() == 1
-            && let Some(only) = bags.pop()
-        {
+        let mut sum = Bag {
+            rows: Vec::new(alloc),
+        };
+        for bag in bags {
+            sum = sum.joined(alloc, bag)?;
+        }
+        Ok(sum)
+    }
+
+    // The sum of this bag and another. The memory of both is let go as their rows move.
+    fn joined(self, alloc: Global, other: Bag) -> Result<Bag, AllocError>
+        ensures { IfOk result (λ sum. sum ≡ bag_of (self ++ other)) }
+    {
+        if self.rows.is_empty() {
             // a use of the field, which tells the proof that the bag is in order
-            let _ = &only.rows;
-            return Ok(only);
+            let _ = &other.rows;
+            return Ok(other);
         }
-        let length = bags.iter().fold(0usize, |length, bag| length.saturating_add(bag.rows.len()));
-        let mut rows = Vec::with_capacity(alloc, length)?;
-        for mut bag in bags {
-            rows.append(&mut bag.rows)?;
+        let mut left = self.rows;
+        let mut right = other.rows;
+        let mut rows = Vec::with_capacity(alloc, left.len().saturating_add(right.len()))?;
+        while let Some(row) = pop_greatest(&mut left, &mut right) {
+            rows.push(row)?;
         }
-        Bag::from_rows(rows)
+        rows.reverse();
+        Ok(Bag { rows })
     }
 
     /// Its rows in rising order.
@@ -70,4 +87,39 @@ impl Bag {
         }
         Ok(Bag { rows })
     }
+}
+
+// Takes out the greatest row of two rising lists.
+fn pop_greatest(left: &mut Vec<Row>, right: &mut Vec<Row>) -> Option<Row>
+    ensures greatest { TakesGreatest left.old.items right.old.items left.new.items right.new.items result }
+    ensures fewer { IfSome result (λ _. vec_len left.new + vec_len right.new < vec_len left.old + vec_len right.old) }
+{
+    if is_left_greatest(left, right) {
+        pop_last(left)
+    } else {
+        pop_last(right)
+    }
+}
+
+// Which list has the greatest row: the left one, where it has a row and the right one does not end above that.
+fn is_left_greatest(left: &[Row], right: &[Row]) -> bool
+    ensures { IsSideOf left.now right.now result }
+{
+    match (left.last(), right.last()) {
+        (Some(a), Some(b)) => cmp_rows(a, b).is_ge(),
+        (Some(_), None) => true,
+        (None, _) => false,
+    }
+}
+
+// Takes out the last row. Now and then it lets go of the memory that the list does not need any more.
+fn pop_last(rows: &mut Vec<Row>) -> Option<Row>
+    ensures items { rows.old.items ≡ rows.new.items ++ option_to_list result }
+    ensures variant { IsSome result ↔ (0 < length rows.old.items) }
+{
+    let row = rows.pop();
+    if rows.len() % ROWS_KEPT == 0 {
+        rows.shrink_to_fit();
+    }
+    row
 }

@@ -1,6 +1,6 @@
 ghost use Rattle.std.specs.Prelude.{◌≡◌, ◌≤◌, ◌∷◌, [], IfOk, IfSome, Some, length, vec_len};
 ghost use Rattle.mit_rows.specs.Order.{row_cmp, value_cmp};
-ghost use Rattle.mit_rows.specs.Stored.{leader};
+ghost use Rattle.mit_rows.specs.Stored.{IsFrontOf, leader};
 
 use crate::value::Value;
 use std::alloc::{AllocError, Global};
@@ -17,12 +17,15 @@ pub struct Row {
     stored: Stored,
 }
 
-// Few reads tell two rows apart: those of their first integers, which stand in the rows themselves.
+// Few reads tell two rows apart: those of their first integers, or of the fronts of their first texts, which stand in the
+// rows themselves.
 #[derive(Debug, Drop)]
 enum Stored {
     One(Value),
     // values that this integer leads
     Led(i64, Vec<Value>),
+    // values that a text with this front leads
+    Fronted(u64, Vec<Value>),
     Many(Vec<Value>),
 }
 
@@ -33,11 +36,11 @@ impl Model for Row {
 
     ghost Value = { List OneValue };
 
-    ghost use Rattle.mit_rows.specs.Stored.{IsLed, listed};
+    ghost use Rattle.mit_rows.specs.Stored.{IsLed, stored_values};
 
-    ghost view = { λ r. listed r.stored };
+    ghost view = { λ r. stored_values r.stored };
 
-    ghost invariant = { λ r. (length (listed r.stored) ≤ MAX_COLUMNS) × IsLed r.stored };
+    ghost invariant = { λ r. (length (stored_values r.stored) ≤ MAX_COLUMNS) × IsLed r.stored };
 }
 
 impl Row {
@@ -62,6 +65,7 @@ impl Row {
         }
         let stored = match values.first() {
             Some(Value::Int(number)) => Stored::Led(*number, values),
+            Some(Value::Text(text)) => Stored::Fronted(text.front(), values),
             _ => Stored::Many(values),
         };
         Row { stored }
@@ -74,7 +78,7 @@ impl Row {
     {
         match &self.stored {
             Stored::One(value) => slice::from_ref(value),
-            Stored::Led(_, values) | Stored::Many(values) => values,
+            Stored::Led(_, values) | Stored::Fronted(_, values) | Stored::Many(values) => values,
         }
     }
 
@@ -89,13 +93,24 @@ impl Row {
         }
     }
 
+    // The front of its first text, where that stands in the row itself.
+    #[inline]
+    fn front(&self) -> Option<u64>
+        ensures { IfSome result (λ front. IsFrontOf front self.now) }
+    {
+        match &self.stored {
+            Stored::Fronted(front, _) => Some(*front),
+            _ => None,
+        }
+    }
+
     /// An equal row.
     pub fn copy(&self, alloc: Global) -> Result<Row, AllocError>
         ensures { IfOk result (λ other. other ≡ self.now) }
     {
         let source = match &self.stored {
             Stored::One(value) => return Ok(Row::from_value(value.copy(alloc)?)),
-            Stored::Led(_, values) | Stored::Many(values) => values,
+            Stored::Led(_, values) | Stored::Fronted(_, values) | Stored::Many(values) => values,
         };
         let mut values = Vec::with_capacity(alloc, source.len())?;
         for value in source {
@@ -115,10 +130,15 @@ pub fn cmp_rows(a: &Row, b: &Row) -> Ordering
     {
         return x.cmp(&y);
     }
+    if let (Some(x), Some(y)) = (a.front(), b.front())
+        && x != y
+    {
+        return x.cmp(&y);
+    }
     cmp_all_values(a.values(), b.values())
 }
 
-// Most rows differ in their first integers, so this stays out of the loops of a sort.
+// Most rows differ in what stands in themselves, so this stays out of the loops of a sort.
 #[inline(never)]
 fn cmp_all_values(a: &[Value], b: &[Value]) -> Ordering
     ensures { result ≡ row_cmp a.now b.now }
@@ -149,7 +169,7 @@ pub fn cmp_values(a: &Value, b: &Value) -> Ordering
 {
     match (a, b) {
         (Value::Int(x), Value::Int(y)) => x.cmp(y),
-        (Value::Text(x), Value::Text(y)) => x.bytes().cmp(y.bytes()),
+        (Value::Text(x), Value::Text(y)) => x.as_str().cmp(y.as_str()),
         (Value::Bool(x), Value::Bool(y)) => x.cmp(y),
         (Value::Int(_), _) | (Value::Text(_), Value::Bool(_)) => Ordering::Less,
         (_, Value::Int(_)) | (Value::Bool(_), Value::Text(_)) => Ordering::Greater,

@@ -1,4 +1,5 @@
-ghost use Rattle.std.specs.Prelude.{◌≡◌, ◌≤◌, ◌<◌, ◌↔◌, IfOk, IsErrOf, length};
+ghost use Rattle.std.specs.Prelude.{◌≡◌, ◌≤◌, ◌<◌, ◌↔◌, IfOk, IsErrOf, get_or, length};
+ghost use Rattle.mit_rows.specs.Stored.{IsFront};
 
 use std::alloc::{AllocError, Global};
 use std::marker::Model;
@@ -62,6 +63,20 @@ impl Text {
         self.text.as_str()
     }
 
+    // Its first eight bytes as a number, the first one the highest, with zeros after a shorter text.
+    pub(crate) fn front(&self) -> u64
+        ensures { IsFront 8 0 self.now result }
+    {
+        let text = self.bytes();
+        let high = (byte_at(text, 0) * 256 + byte_at(text, 1)) * 65_536
+            + byte_at(text, 2) * 256
+            + byte_at(text, 3);
+        let low = (byte_at(text, 4) * 256 + byte_at(text, 5)) * 65_536
+            + byte_at(text, 6) * 256
+            + byte_at(text, 7);
+        high * 4_294_967_296 + low
+    }
+
     /// An equal text.
     pub fn copy(&self, alloc: Global) -> Result<Text, AllocError>
         ensures { IfOk result (λ other. other ≡ self.now) }
@@ -69,5 +84,17 @@ impl Text {
         Ok(Text {
             text: String::from_str(alloc, self.text.as_str())?,
         })
+    }
+}
+
+// The byte at this place, or 0 after the end.
+#[inline]
+fn byte_at(text: &[u8], at: usize) -> u64
+    ensures value { result ≡ get_or text.now at 0 }
+    ensures small { result < 256 }
+{
+    match text.get(at) {
+        Some(byte) => u64::from(*byte),
+        None => 0,
     }
 }

@@ -6,4 +6,5 @@ pub mod RowFacts
 pub mod PrintFacts
 pub mod ShelfLemmas
 pub mod StagingLemmas
+pub mod PutOrder
 pub mod StagedLemmas

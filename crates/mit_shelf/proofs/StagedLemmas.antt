@@ -1,70 +1,64 @@
 -- Where a put goes among rising ones, and what the files are after one write more.
-use Rattle.std.proofs.Common.{◌≡◌, ℕ, ◌+◌, ◌<◌, ◌≤◌, Bool, true, false, cond, List, [], ◌∷◌, ◌++◌, length, get_or, take, drop, map, refl, sym, subst, ap, ◌∙◌, append_assoc}
-use Rattle.std.proofs.lemmas.List.{drop_all, drop_more, map-append, take_all, take_more}
+use Rattle.std.proofs.Common.{◌≡◌, ℕ, ◌-◌, arith, ◌+◌, ◌<◌, ◌≤◌, true, false, List, [], ◌∷◌, ◌++◌, length, get_or, take, drop, map, refl, sym, subst, ap, ◌∙◌}
+use Rattle.std.proofs.lemmas.List.{drop_all, drop_more, map-append, take-append-drop, take_all, take_more}
 use Rattle.std.specs.FinMap as fin
 use Rattle.mit_rows.specs.Bags.{BagOf}
 use Rattle.mit_world.specs.Files.{FileMap}
 use Rattle.mit_shelf.specs.Printed.{Write, bag_text, published, published_onto}
 use Rattle.mit_shelf.specs.Staged.{Put, is_below, with_put, writes_of}
-use Rattle.mit_shelf.specs.StoredPuts.{IsFirstAbove, put_of}
+use Rattle.mit_shelf.specs.StoredPuts.{IsFirstAbove, Rises, RisesBy, put_of}
+use Rattle.mit_shelf.proofs.PutOrder.{BeginsAbove, all_lower, place_is, rises_front, rises_with}
+use Rattle.std.specs.List.{All}
+use Rattle.std.proofs.lemmas.List.Elements.{All-nil}
 use Rattle.mit_shelf.specs.declared.staged.Put.{Put as Stored}
 
 -- ---- where a put goes
-
--- none of those so far is above the pair
-abbrev pub NoneAbove : List Stored → ℕ × ℕ → ℕ → Type 0
-NoneAbove stored pair place = (write : List ℕ × BagOf)
-    → with_put (pair, write) (map put_of stored) ≡ map put_of (take place stored) ++ with_put (pair, write) (map put_of (drop place stored))
-
-with_put-empty : (put : Put) → with_put put [] ≡ put ∷ []
-unfolding with_put
-with_put-empty put = refl
-
-with_put-cons : (put next : Put) (rest : List Put) (above : Bool) → is_below put.0 next.0 ≡ above
-    → with_put put (next ∷ rest) ≡ cond above (put ∷ next ∷ rest) (next ∷ with_put put rest)
-unfolding with_put
-with_put-cons put next rest above e = ap (λ b. cond b (put ∷ next ∷ rest) (next ∷ with_put put rest)) e
 
 rest_is : (stored : List Stored) (place : ℕ) (item : Stored) → place < length stored → item ≡ get_or stored place item
     → drop place stored ≡ item ∷ drop (place + 1) stored
 rest_is stored place item h is = drop_more stored place item h ∙ ap (λ (x : Stored). x ∷ drop (place + 1) stored) (sym is)
 
-pub none_start : (stored : List Stored) (pair : ℕ × ℕ) → NoneAbove stored pair 0
-none_start stored pair write = refl
+pub above_start : (stored : List Stored) (pair : ℕ × ℕ) → BeginsAbove pair (map put_of (drop (length stored) stored))
+above_start stored pair = subst (λ (l : List Stored). BeginsAbove pair (map put_of l)) (sym (drop_all (length stored) stored (omega arith))) tt
 
-pub none_more : (stored : List Stored) (pair : ℕ × ℕ) (place : ℕ) (item : Stored) (above : Bool) → place < length stored → item ≡ get_or stored place item
-    → above ≡ is_below pair (put_of item).0 → above ≡ false → NoneAbove stored pair place → NoneAbove stored pair (place + 1)
-none_more stored pair place item above h is test lower before write =
-    before write
-    ∙ ap (λ (l : List Stored). map put_of (take place stored) ++ with_put (pair, write) (map put_of l)) (rest_is stored place item h is)
-    ∙ ap (λ (l : List Put). map put_of (take place stored) ++ l) (with_put-cons (pair, write) (put_of item) (map put_of (drop (place + 1) stored)) false (sym test ∙ lower))
-    ∙ sym (append_assoc (map put_of (take place stored)) (put_of item ∷ []) (with_put (pair, write) (map put_of (drop (place + 1) stored))))
-    ∙ ap (λ (l : List Put). l ++ with_put (pair, write) (map put_of (drop (place + 1) stored)))
-    (sym (map-append put_of (take place stored) (item ∷ []))
-    ∙ ap (λ (l : List Stored). map put_of l) (ap (λ (x : Stored). take place stored ++ x ∷ []) is ∙ sym (take_more stored place item h)))
+pub above_more : (stored : List Stored) (pair : ℕ × ℕ) (place : ℕ) (item : Stored) → 0 < place → place ≤ length stored → item ≡ get_or stored (place - 1) item
+    → is_below pair (put_of item).0 ≡ true → BeginsAbove pair (map put_of (drop (place - 1) stored))
+above_more stored pair place item h within is above =
+    subst (λ (l : List Stored). BeginsAbove pair (map put_of l)) (sym (rest_is stored (place - 1) item (omega arith) is)) above
 
-pub first_found : (stored : List Stored) (pair : ℕ × ℕ) (place : ℕ) (item : Stored) (above : Bool) → place < length stored → item ≡ get_or stored place item
-    → above ≡ is_below pair (put_of item).0 → above ≡ true → NoneAbove stored pair place → place ≤ length stored → IsFirstAbove stored pair place
-first_found stored pair place item above h is test higher before within = (
+-- none of those before this place is above the pair
+abbrev pub AreLower : ℕ × ℕ → List Stored → Type 0
+AreLower pair stored = All (λ (put : Put). is_below pair put.0 ≡ false) (map put_of stored)
+
+pub first_from : (stored : List Stored) (pair : ℕ × ℕ) (place : ℕ) → place ≤ length stored → AreLower pair (take place stored)
+    → BeginsAbove pair (map put_of (drop place stored)) → IsFirstAbove stored pair place
+first_from stored pair place within lower above = (
   within,
   λ write.
-      before write
-      ∙ ap (λ (l : List Stored). map put_of (take place stored) ++ with_put (pair, write) (map put_of l)) (rest_is stored place item h is)
-      ∙ ap (λ (l : List Put). map put_of (take place stored) ++ l) (with_put-cons (pair, write) (put_of item) (map put_of (drop (place + 1) stored)) true (sym test ∙ higher))
-      ∙ ap (λ (l : List Stored). map put_of (take place stored) ++ (pair, write) ∷ map put_of l) (sym (rest_is stored place item h is)),
+      ap (λ (l : List Stored). with_put (pair, write) (map put_of l)) (sym (take-append-drop place stored))
+      ∙ ap (with_put (pair, write)) (map-append put_of (take place stored) (drop place stored))
+      ∙ place_is pair write (map put_of (take place stored)) (map put_of (drop place stored)) lower above,
 )
 
-pub none_found : (stored : List Stored) (pair : ℕ × ℕ) (place result : ℕ) → place ≡ result → length stored ≤ result → NoneAbove stored pair place
-    → result ≤ length stored → IsFirstAbove stored pair result
-none_found stored pair place result end h so_far within =
-    let before = subst (NoneAbove stored pair) end so_far in (
-      within,
-      λ write.
-          before write
-          ∙ ap (λ (l : List Stored). map put_of (take result stored) ++ with_put (pair, write) (map put_of l)) (drop_all result stored h)
-          ∙ ap (λ (l : List Put). map put_of (take result stored) ++ l) (with_put-empty (pair, write))
-          ∙ ap (λ (l : List Stored). map put_of (take result stored) ++ (pair, write) ∷ map put_of l) (sym (drop_all result stored h)),
-    )
+pub none_lower : (stored : List Stored) (pair : ℕ × ℕ) (place : ℕ) → place ≡ 0 → AreLower pair (take place stored)
+none_lower stored pair place h = subst (λ (n : ℕ). AreLower pair (take n stored)) (sym h) (All-nil _)
+
+pub are_lower : (stored : List Stored) (pair : ℕ × ℕ) (place : ℕ) (item : Stored) → RisesBy stored → 0 < place → place ≤ length stored
+    → item ≡ get_or stored (place - 1) item → is_below pair (put_of item).0 ≡ false → AreLower pair (take place stored)
+are_lower stored pair place item up h within is lower =
+    let front : take place stored ≡ take (place - 1) stored ++ item ∷ [] =
+    ap (λ (n : ℕ). take n stored) (omega arith) ∙ take_more stored (place - 1) item (omega arith) ∙ ap (λ (x : Stored). take (place - 1) stored ++ x ∷ []) (sym is) in
+    let puts : map put_of (take place stored) ≡ map put_of (take (place - 1) stored) ++ put_of item ∷ [] =
+    ap (λ (l : List Stored). map put_of l) front ∙ map-append put_of (take (place - 1) stored) (item ∷ []) in
+    let whole : Rises (map put_of (take place stored) ++ map put_of (drop place stored)) =
+    subst (λ (l : List Put). Rises l) (ap (λ (l : List Stored). map put_of l) (sym (take-append-drop place stored)) ∙ map-append put_of (take place stored) (drop place stored)) up in
+    let rising = subst (λ (l : List Put). Rises l) puts (rises_front (map put_of (take place stored)) (map put_of (drop place stored)) whole) in
+    subst (λ (l : List Put). All (λ (put : Put). is_below pair put.0 ≡ false) l) (sym puts) (all_lower pair (map put_of (take (place - 1) stored)) (put_of item) rising lower)
+
+-- the puts still rise
+pub rises_stored : (old : List Put) (stored after : List Stored) (put : Put) → RisesBy stored → map put_of stored ≡ old → map put_of after ≡ with_put put old → RisesBy after
+rises_stored old stored after put up view is =
+    subst (λ (l : List Put). Rises l) (sym is) (rises_with put old (subst (λ (l : List Put). Rises l) view up))
 
 pub same_put : (pair : ℕ × ℕ) (n m : List ℕ) (b d : BagOf) → n ≡ m → b ≡ d → ◌≡◌ {A = Put} (pair, (n, b)) (pair, (m, d))
 same_put pair n m b d e f = ap (λ (x : List ℕ). (pair, (x, b))) e ∙ ap (λ (x : BagOf). (pair, (m, x))) f

@@ -1,7 +1,8 @@
 -- Staging the files one after another: what is left after some of them, and what all of them give where nothing was staged before.
-use Rattle.std.proofs.Common.{◌≡◌, ◌∙◌, ◌+◌, ◌≤◌, ℕ, List, [], ◌∷◌, ◌++◌, Option, Some, None, length, take, ap, sym, refl, add-one}
-use Rattle.std.specs.Prelude.{zero, suc, map, Bool, true, false, cond, ◌&&◌, T, Result, Ok, Err, OnErr, option_map, slice_get}
-use Rattle.std.proofs.lemmas.List.{take_all}
+use Rattle.std.proofs.Common.{◌≡◌, ◌∙◌, Bor, List, [], ◌∷◌, ◌++◌, ℕ, Option, Some, None, length, take, ap, sym, refl, arith, append_assoc, append-nil}
+use Rattle.std.specs.Prelude.{map, Bool, true, false, cond, ◌&&◌, T, Result, Ok, Err, OnErr, option_map}
+use Rattle.std.proofs.Math.Seq.{take-append_seam}
+use Rattle.std.proofs.lemmas.List.{length-append, map-append}
 use Rattle.std.specs.Ordering.{eq_by_cmp, is_eq, is_lt}
 use Rattle.std.specs.Cmp.Lexicographic.{nat_list_cmp_total}
 use Rattle.std.specs.declared.cmp.Ordering.{Ordering}
@@ -10,19 +11,13 @@ use Rattle.std.specs.FinMap as fin
 use Rattle.std.specs.FinMap.Entries.{below_all, find, is_sorted}
 use Rattle.mit_world.specs.Files.{FileMap, name_cmp}
 use Rattle.mit_world.specs.Outside.{Held, stages}
-use Rattle.mit_shelf.specs.Staging.{StagesAfresh, published_in, stages_all}
+use Rattle.mit_shelf.specs.Staging.{StagesAfresh, StagesSome, published_in, stages_all}
 
 -- ---- one file
 
--- the file at a place is the first of those that are left
-front : (files : List (List ℕ × List ℕ)) (k : ℕ) (name bytes : List ℕ) → slice_get (map (λ e. e.0) files) k ≡ Some name
-    → slice_get (map (λ e. e.1) files) k ≡ Some bytes → take (suc k) files ≡ take k files ++ (name, bytes) ∷ []
-front [] k name bytes named held = cc
-front (file ∷ files) zero name bytes named held =
-    let first : file.0 ≡ name = cc in
-    let second : file.1 ≡ bytes = cc in
-    λ i. (first i, second i) ∷ []
-front (file ∷ files) (suc k) name bytes named held = ap (λ (rest : List (List ℕ × List ℕ)). file ∷ rest) (front files k name bytes named held)
+-- a file that was gone over, as its name and its bytes
+abbrev pub told : Bor (List ℕ) × Bor (List ℕ) → List ℕ × List ℕ
+told file = (file.0.now, file.1.now)
 
 stages_all-more : (files : List (List ℕ × List ℕ)) (name bytes : List ℕ) (held : Held) → stages_all (files ++ (name, bytes) ∷ []) held ≡ stages name bytes (stages_all files held)
 unfolding stages_all
@@ -40,13 +35,31 @@ staged_none None = refl
 staged_none (Some held) = refl
 
 -- one more file is staged
-pub goes_on : (files : List (List ℕ × List ℕ)) (k : ℕ) (name bytes : List ℕ) (first old new : Option Held)
-    → slice_get (map (λ e. e.0) files) k ≡ Some name → slice_get (map (λ e. e.1) files) k ≡ Some bytes → new ≡ option_map (stages name bytes) old
-    → old ≡ option_map (stages_all (take k files)) first → new ≡ option_map (stages_all (take (k + 1) files)) first
-goes_on files k name bytes first old new named held is before =
-    is ∙ ap (option_map (stages name bytes)) before ∙ staged_more (take k files) name bytes first
-    ∙ ap (λ (those : List (List ℕ × List ℕ)). option_map (stages_all those) first) (sym (front files k name bytes named held))
-    ∙ ap (λ n. option_map (stages_all (take n files)) first) (sym (add-one k))
+pub goes_on : (before : List (Bor (List ℕ) × Bor (List ℕ))) (name bytes : Bor (List ℕ)) (first old new : Option Held) → new ≡ option_map (stages name.now bytes.now) old
+    → old ≡ option_map (stages_all (map told before)) first → new ≡ option_map (stages_all (map told (before ++ (name, bytes) ∷ []))) first
+goes_on before name bytes first old new is so_far =
+    is ∙ ap (option_map (stages name.now bytes.now)) so_far ∙ staged_more (map told before) name.now bytes.now first
+    ∙ ap (λ (those : List (List ℕ × List ℕ)). option_map (stages_all those) first) (sym (map-append told before ((name, bytes) ∷ [])))
+
+-- and is gone over
+pub all_more : (files : List (List ℕ × List ℕ)) (before : List (Bor (List ℕ) × Bor (List ℕ))) (name bytes : Bor (List ℕ)) (left after : List (List ℕ × List ℕ))
+    → files ≡ map told before ++ left → left ≡ (name.now, bytes.now) ∷ after → files ≡ map told (before ++ (name, bytes) ∷ []) ++ after
+all_more files before name bytes left after all first =
+    all ∙ ap (λ (l : List (List ℕ × List ℕ)). map told before ++ l) first ∙ sym (append_assoc (map told before) ((name.now, bytes.now) ∷ []) after)
+    ∙ ap (λ (l : List (List ℕ × List ℕ)). l ++ after) (sym (map-append told before ((name, bytes) ∷ [])))
+
+-- a stop before the end leaves those before it
+pub stages_some : (files : FileMap) (before : List (Bor (List ℕ) × Bor (List ℕ))) (name bytes : Bor (List ℕ)) (left after : List (List ℕ × List ℕ)) (first old new : Option Held)
+    → fin.entries files ≡ map told before ++ left → left ≡ (name.now, bytes.now) ∷ after → new ≡ old
+    → old ≡ option_map (stages_all (map told before)) first → StagesSome files first new
+stages_some files before name bytes left after first old new all next kept so_far =
+    let whole = all ∙ ap (λ (l : List (List ℕ × List ℕ)). map told before ++ l) next in (
+      length (map told before),
+      omega (arith, fin.len-entries files, ap length whole, length-append (map told before) ((name.now, bytes.now) ∷ after)),
+      kept ∙ so_far
+          ∙ ap (λ (those : List (List ℕ × List ℕ)). option_map (stages_all those) first)
+          (sym (ap (take (length (map told before))) whole ∙ take-append_seam (map told before) ((name.now, bytes.now) ∷ after))),
+    )
 
 pub publishes_same : (name bytes : List ℕ) (old new : Option Held) → new ≡ option_map (stages name bytes) old → published_in new ≡ published_in old
 publishes_same name bytes None new is = ap published_in is
@@ -54,9 +67,8 @@ publishes_same name bytes (Some held) new is = ap published_in is
 
 -- ---- all files
 
-pub ends : (files : List (List ℕ × List ℕ)) (k : ℕ) (first held : Option Held) → length files ≤ k → held ≡ option_map (stages_all (take k files)) first
-    → held ≡ option_map (stages_all files) first
-ends files k first held all is = is ∙ ap (λ (those : List (List ℕ × List ℕ)). option_map (stages_all those) first) (take_all k files all)
+pub all_here : (files before left : List (List ℕ × List ℕ)) → files ≡ before ++ left → left ≡ [] → before ≡ files
+all_here files before left all none = sym (all ∙ ap (λ (l : List (List ℕ × List ℕ)). before ++ l) none ∙ append-nil before)
 
 -- ---- onto nothing
 

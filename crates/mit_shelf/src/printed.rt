@@ -39,7 +39,7 @@ fn fill_record(texts: &mut ByteRecord, row: &Row) -> Result<(), AllocError>
 
 /// The text of a bag as CSV: its rows in order, with commas, quotes where necessary and a line feed after each.
 ///
-/// Each error of the writer is answered as want of memory: into bytes in memory nothing else fails.
+/// Each error of the writer is answered as out of memory: into bytes in memory nothing else fails.
 pub fn print_rows(alloc: Global, bag: &Bag) -> Result<Vec<u8>, AllocError>
     ensures { IfOk result (λ text. text.items ≡ bag_text bag.now) }
 {

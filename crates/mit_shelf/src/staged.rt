@@ -2,7 +2,7 @@
 ghost use Rattle.std.specs.Prelude.{◌≡◌, [], IfOk, OnErr, OnOk};
 ghost use Rattle.mit_shelf.specs.Printed.{published};
 ghost use Rattle.mit_shelf.specs.Staged.{IsFree, is_below, with_put, writes_of};
-ghost use Rattle.mit_shelf.specs.StoredPuts.{IsFirstAbove};
+ghost use Rattle.mit_shelf.specs.StoredPuts.{IsFirstAbove, RisesBy};
 
 use crate::printed::print_rows;
 use mit_rows::Bag;
@@ -29,11 +29,13 @@ struct Put {
 impl Model for Staged {
     ghost use Rattle.std.specs.Prelude.{List, map};
     ghost use Rattle.mit_shelf.specs.Staged.{Put as OnePut};
-    ghost use Rattle.mit_shelf.specs.StoredPuts.{put_of};
+    ghost use Rattle.mit_shelf.specs.StoredPuts.{RisesBy, put_of};
 
     ghost Value = { List OnePut };
 
     ghost view = { λ staged. map put_of staged.puts.items };
+
+    ghost invariant = { λ staged. RisesBy staged.puts.items };
 }
 
 impl Staged {
@@ -72,22 +74,23 @@ impl Staged {
         let mut files = Files::new(self.alloc);
         for put in &self.puts {
             let text = print_rows(self.alloc, &put.bag)?;
-            files.put(put.name.as_str(), &text)?;
+            files.put_owned(put.name.as_str(), text)?;
         }
         Ok(files)
     }
 }
 
-// Where the first put above this pair stands, or how many puts there are.
+// Where the first put above this pair stands, or how many puts there are. The search begins at the end, since most puts
+// come in rising order.
 fn first_above(puts: &[Put], place: u64, index: u32) -> usize
+    requires { RisesBy puts.now }
     ensures { IsFirstAbove puts.now (place, index) result }
 {
-    for (at, put) in puts.iter().enumerate() {
-        if put.is_above(place, index) {
-            return at;
-        }
+    let mut at = puts.len();
+    while at > 0 && puts[at - 1].is_above(place, index) {
+        at -= 1;
     }
-    puts.len()
+    at
 }
 
 impl Put {

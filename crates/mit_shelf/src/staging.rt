@@ -15,8 +15,8 @@ pub fn stage_all<O: Outbox>(files: &Files, outbox: &mut O) -> Result<(), Outside
     ensures failed { IfErr result (λ stop. IfFailed stop (Rose (O.faults outbox.old) (O.faults outbox.new))) }
     ensures count { O.faults outbox.old ≤ O.faults outbox.new }
 {
-    for k in 0..files.len() {
-        outbox.stage(files.name_at(k), files.bytes_at(k))?;
+    for (name, bytes) in files.iter() {
+        outbox.stage(name, bytes)?;
     }
     Ok(())
 }

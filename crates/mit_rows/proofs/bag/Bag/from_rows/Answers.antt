@@ -10,12 +10,12 @@ use Rattle.mit_rows.proofs.bag.Bag.from_rows.Goals as goal
 
 pub invariant_of-result : goal.invariant_of-result
 invariant_of-result c =
-    let rows = c.sort_by.new.self.items in
-    let up : IsSorted row_cmp rows = c.in_ok-sort_by.ensures.sorted _ (ranks_by row_cmp_total (λ (row : RowOf). row)) (answers_always _ _ _ (λ f a r f' k. ap is_lt k.met)) in
+    let rows = c.sort_unstable_by.new.self.items in
+    let up : IsSorted row_cmp rows = c.sort_unstable_by.ensures.sorted _ (ranks_by row_cmp_total (λ (row : RowOf). row)) (answers_always _ _ _ (λ f a r f' k. ap is_lt k.met)) in
     bag_from_sorted rows rows (IsPermutation-refl rows) up
 
 pub returns : goal.returns
 returns c =
-    let rows = c.sort_by.new.self.items in
-    let up : IsSorted row_cmp rows = c.in_ok-sort_by.ensures.sorted _ (ranks_by row_cmp_total (λ (row : RowOf). row)) (answers_always _ _ _ (λ f a r f' k. ap is_lt k.met)) in
-    bag_from_sorted c.args.rows.items rows c.sort_by.ensures.permutation up
+    let rows = c.sort_unstable_by.new.self.items in
+    let up : IsSorted row_cmp rows = c.sort_unstable_by.ensures.sorted _ (ranks_by row_cmp_total (λ (row : RowOf). row)) (answers_always _ _ _ (λ f a r f' k. ap is_lt k.met)) in
+    bag_from_sorted c.args.rows.items rows c.sort_unstable_by.ensures.permutation up

@@ -9,8 +9,8 @@ loop-put-init c = c.new-files.ensures ∙ files_none
 
 pub loop-put-preserved : goal.loop-put-preserved
 loop-put-preserved c =
-    files_more c.deref-put-items.result.now c.loop-put.put-index c.put-item.result c.loop-put.files c.put.new.self c.as_str.result.now c.deref.result.now
-    (omega arith) c.put-item.is c.loop-put.invariant c.in_ok-put.ensures.ok c.as_str.ensures.value (c.deref.ensures.value ∙ c.in_ok-text.ensures)
+    files_more c.deref-put-items.result.now c.loop-put.put-index c.put-item.result c.loop-put.files c.put_owned.new.self c.as_str.result.now c.in_ok-text.text.items
+    (omega arith) c.put-item.is c.loop-put.invariant c.in_ok-put_owned.ensures.ok c.as_str.ensures.value c.in_ok-text.ensures
 
 pub returns : goal.returns
 returns c =
