@@ -1,0 +1,6 @@
+pub mod Choice
+pub mod Last
+pub mod Fate
+pub mod Views
+pub mod Kept
+pub mod Walks
