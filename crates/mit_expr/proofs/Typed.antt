@@ -1,5 +1,5 @@
 -- The value of an expression has the expression's type.
-use Rattle.std.proofs.Common.{◌≡◌, ℤ, ◌+ℤ◌, ◌-ℤ◌, ◌*ℤ◌, List, length, map, Option, Some, None, Ok, Err, refl, subst, pos, negsuc, zero, suc, Bool, true, false, not, ◌^◌, nat_lt, nat_le, slice_get, if◌then◌else◌, ℕ, ◌++◌, IfOk, IsSome, option_map}
+use Rattle.std.proofs.Common.{◌≡◌, ℤ, ◌+ℤ◌, ◌-ℤ◌, ◌*ℤ◌, List, length, map, Option, Some, None, refl, subst, pos, negsuc, zero, suc, Bool, true, false, not, ◌^◌, nat_lt, nat_le, slice_get, if◌then◌else◌, ℕ, ◌++◌, IsSome, option_map}
 use Rattle.std.specs.Prelude.{⊤, int_div, int_rem}
 use Rattle.std.specs.Ordering.{is_eq, is_gt, is_lt}
 use Rattle.std.proofs.lemmas.Option.{slice_get-map}
@@ -20,14 +20,12 @@ use Rattle.mit_expr.specs.declared.expr.Expr.TheOpen as expr
 use Rattle.mit_expr.specs.declared.expr.Expr.TheFolds.{fold-roll-Expr, ind-Expr, map-Expr}
 use Rattle.mit_expr.specs.declared.expr.Expr.TheViews.{roll-Expr}
 use Rattle.mit_expr.specs.Types.{type_of_value, same_type, type_in, type_step, type_of_operator, type_of_call, where_are, where_is, where_same}
-use Rattle.mit_expr.specs.Values.{ValueOrFault, ValueFault, gives, faults, untyped, overflow, text_too_long, value_in, value_step, value_at, combined, called, not_value, and_value, or_value, of_both, of_ints, of_texts, within, quotient, remainder, joined, number_or_fault, after_quotient}
+use Rattle.mit_expr.specs.Values.{IsTyped, ValueOrFault, ValueFault, gives, faults, untyped, overflow, text_too_long, value_in, value_step, value_at, combined, called, not_value, and_value, or_value, of_both, of_ints, of_texts, within, quotient, remainder, joined, number_or_fault, after_quotient}
 
--- an outcome is of this type, if one is given: a fault is of each, and only without a type is none told
+-- an outcome is of this type, if one is given
 abbrev HasType : Option ColType → ValueOrFault → Type 0
 HasType None outcome = ⊤
-HasType (Some is) (gives value) = type_of_value value ≡ is
-HasType (Some is) (faults fault) = ⊤
-HasType (Some is) untyped = ⊥
+HasType (Some is) outcome = IsTyped is outcome
 
 fault_typed : (is : Option ColType) (fault : ValueFault) → HasType is (faults fault)
 fault_typed None fault = tt
@@ -195,3 +193,7 @@ never_untyped row captures e s is = typed_never _ _ (typed row captures e) s is
 pub given_typed : (row captures : List Value) (e : Expr) (value : Value) → IsSome (type_in (map type_of_value row) (map type_of_value captures) e) → value_in row captures e ≡ gives value
     → type_in (map type_of_value row) (map type_of_value captures) e ≡ Some (type_of_value value)
 given_typed row captures e value s is = typed_value _ _ value (typed row captures e) s is
+
+-- an expression that has a type has a value of it, or a fault
+pub typing : (row captures : List Value) (e : Expr) (is : ColType) → type_in (map type_of_value row) (map type_of_value captures) e ≡ Some is → IsTyped is (value_in row captures e)
+typing row captures e is has = subst (λ (t : Option ColType). HasType t (value_in row captures e)) has (typed row captures e)

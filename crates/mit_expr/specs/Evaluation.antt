@@ -7,7 +7,7 @@ use Rattle.mit_expr.specs.declared.expr.BinOp.{BinOp}
 use Rattle.mit_expr.specs.declared.expr.BinOp.TheVariants as op
 use Rattle.mit_expr.specs.declared.values.EvalStop.{EvalStop}
 use Rattle.mit_expr.specs.declared.values.EvalStop.TheVariants.{Fault, Untyped}
-use Rattle.mit_expr.specs.Values.{ValueOrFault, gives, faults, untyped, Evaluates}
+use Rattle.mit_expr.specs.Values.{ValueOrFault, gives, untyped, Evaluates}
 
 -- an evaluation gives that value or fault, or tells that there is no type
 abbrev pub Follows : ValueOrFault → Result Value EvalStop → Type 0
@@ -40,7 +40,7 @@ IsOther (gives (Text text)) = ⊥
 IsOther (gives (Truth truth)) = ⊤
 IsOther other = ⊥
 
--- an evaluation gives a text, which stands behind what a text held before
+-- an evaluation gives a text, which stands after what a text held before
 abbrev pub Adds : ValueOrFault → List ℕ → List ℕ → Type 0
 Adds due before after = (due ≡ gives (Text (text_in due))) × (after ≡ before ++ text_in due)
 

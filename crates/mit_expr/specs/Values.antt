@@ -5,6 +5,7 @@ use Rattle.std.specs.Fmt.{signed_decimal}
 use Rattle.mit_rows.specs.Integers.{int_of}
 use Rattle.mit_rows.specs.Order.{value_cmp}
 use Rattle.mit_rows.specs.declared.text.TheConstants.{MAX_TEXT}
+use Rattle.mit_rows.specs.declared.value.ColType.{ColType}
 use Rattle.mit_rows.specs.declared.value.Value.{Value}
 use Rattle.mit_rows.specs.declared.value.Value.TheVariants.{Int, Text, Bool as Truth}
 use Rattle.mit_expr.specs.declared.expr.BinOp.{BinOp}
@@ -15,6 +16,7 @@ use Rattle.mit_expr.specs.declared.expr.Expr.{Expr}
 use Rattle.mit_expr.specs.declared.expr.Expr.TheFolds.{fold-Expr}
 use Rattle.mit_expr.specs.declared.expr.Expr.TheOpen.{Expr-F}
 use Rattle.mit_expr.specs.declared.expr.Expr.TheOpen as expr
+use Rattle.mit_expr.specs.Types.{type_of_value}
 use Rattle.mit_expr.specs.declared.values.EvalFault.{EvalFault}
 use Rattle.mit_expr.specs.declared.values.EvalFault.TheVariants.{Overflow, DivideByZero, NotNumber, TextTooLong, NoMemory}
 
@@ -151,3 +153,9 @@ Evaluates due (Err DivideByZero) = due ≡ faults divide_by_zero
 Evaluates due (Err NotNumber) = due ≡ faults not_number
 Evaluates due (Err TextTooLong) = due ≡ faults text_too_long
 Evaluates due (Err NoMemory) = ⊤
+
+-- a value of this type, or a fault
+abbrev pub IsTyped : ColType → ValueOrFault → Type 0
+IsTyped is (gives value) = type_of_value value ≡ is
+IsTyped is (faults fault) = ⊤
+IsTyped is untyped = ⊥
