@@ -1,2 +1,14 @@
 pub mod Kinds
 pub mod Results
+pub mod Answers
+pub mod Keys
+pub mod Routes
+pub mod Forms
+pub mod EachRow
+pub mod Totals
+pub mod Operators
+pub mod Parts
+pub mod KeyLaws
+pub mod AnswerStored
+pub mod Stops
+pub mod TotalStored

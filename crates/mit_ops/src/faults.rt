@@ -2,7 +2,7 @@
 use mit_rows::Row;
 
 /// What went wrong in a script.
-#[derive(Clone, Copy, Debug, PartialEq, Eq)]
+#[derive(Clone, Copy, Debug, PartialEq, Eq, PartialOrd, Ord)]
 pub enum FaultKind {
     /// A number is outside its 64 bits.
     Overflow,

@@ -7,6 +7,9 @@ use mit_expr::Expr;
 use mit_rows::Text;
 use std::alloc::{AllocError, Global};
 
+/// The most numbers of one range.
+pub const MAX_RANGE: usize = 65_536;
+
 /// What a flat map makes of a row. It gives the row, followed by each of these.
 #[derive(Debug, Drop)]
 pub enum Flat {

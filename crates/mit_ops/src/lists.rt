@@ -1,5 +1,6 @@
 //! Lists inside public types: each is made from a `Vec` without taking memory.
 ghost use Rattle.std.specs.Prelude.{◌≡◌, IfOk};
+ghost use Rattle.std.specs.List.{range_with_len};
 
 use mit_expr::Expr;
 use mit_rows::ColType;
@@ -66,6 +67,15 @@ impl Columns {
         ensures { result ≡ numbers.items }
     {
         Columns { numbers }
+    }
+
+    /// The first columns, of which there are so many.
+    pub fn first(alloc: Global, count: u8) -> Result<Columns, AllocError>
+        ensures { IfOk result (λ columns. columns ≡ range_with_len 0 count) }
+    {
+        Ok(Columns {
+            numbers: (0..count).collect(alloc)?,
+        })
     }
 
     /// The numbers.
