@@ -1,0 +1,4 @@
+mod Walks
+pub mod Grouping
+pub mod Making
+pub mod Fitting

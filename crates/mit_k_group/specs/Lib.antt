@@ -1,0 +1,5 @@
+pub mod GroupKinds
+pub mod GroupMeaning
+pub mod Groups
+pub mod Kept
+pub mod OnlyRow

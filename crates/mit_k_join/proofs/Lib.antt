@@ -1,0 +1,4 @@
+pub mod Matching
+pub mod Indexing
+pub mod Parts
+pub mod Closing

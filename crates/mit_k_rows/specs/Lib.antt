@@ -1,0 +1,3 @@
+pub mod RowKinds
+pub mod Gives
+pub mod Kernels
