@@ -13,6 +13,9 @@ use Rattle.std.proofs.lemmas.List.Sums.{take_while-cons}
 use Rattle.std.proofs.lemmas.Str.{IsUtf8-append, IsUtf8-from_ascii, IsUtf8-nil}
 use Rattle.std.proofs.lemmas.Str.Ascii.{IsAscii-cons, IsAscii-nil}
 use Rattle.std.proofs.lemmas.Str.Parse.{numerals_by_value, tells_all_ascii_digits}
+use Rattle.mit_rows.specs.declared.row.TheConstants.{MAX_COLUMNS}
+use Rattle.mit_rows.specs.declared.text.TheConstants.{MAX_TEXT}
+use Rattle.mit_lex.specs.declared.limits.TheConstants.{MAX_WORD}
 use Rattle.mit_lex.specs.Pieces.{column_piece, is_blank, is_word_byte, number_piece, piece_at, quoted, text_piece, word_piece, word_kind}
 use Rattle.mit_lex.specs.Tables.{keywords, place_of}
 use Rattle.mit_lex.specs.Tokens.{Scan, scanned, with_piece}
@@ -54,7 +57,7 @@ no_digit : (b : Bool) → not b ≡ true → b ≡ false
 no_digit true e = sym e
 no_digit false e = refl
 
-pub reads_word : (word : List ℕ) (kind : TokenKind) → is_word word ≡ true → leb (length word) 64 ≡ true → word_kind word (place_of word keywords) ≡ kind → ReadsAs word kind
+pub reads_word : (word : List ℕ) (kind : TokenKind) → is_word word ≡ true → leb (length word) MAX_WORD ≡ true → word_kind word (place_of word keywords) ≡ kind → ReadsAs word kind
 unfolding word_piece
 reads_word [] kind letters short is = cc
 reads_word (first ∷ word) kind letters short is =
@@ -112,10 +115,10 @@ reads_number value most = number_reads value (decimal value) most (digits_of val
 
 -- ---- columns
 
-column_reads : (value : ℕ) (ds : List ℕ) → value ≤ 15 → length ds ≤ 2 → Digits value ds → ReadsAs (36 ∷ ds) (Column value)
+column_reads : (value : ℕ) (ds : List ℕ) → value < MAX_COLUMNS → length ds ≤ 2 → Digits value ds → ReadsAs (36 ∷ ds) (Column value)
 unfolding column_piece
 column_reads value ds most short digits =
-    let small : leb value 15 ≡ true = grind (arith, nat_tests) in
+    let small : ltb value MAX_COLUMNS ≡ true = grind (arith, nat_tests) in
     let some : ltb 0 (length ds) ≡ true = let h = digits.some in grind (arith, nat_tests) in
     let size : 1 + length ds ≡ length (36 ∷ ds) = omega arith in
     record {
@@ -128,7 +131,7 @@ column_reads value ds most short digits =
           sym (column_is _ ((36 ∷ ds) ++ gap ∷ rest) (ds ++ gap ∷ rest) 36 refl refl at);
     }
 
-pub reads_column : (value : ℕ) → value ≤ 15 → ReadsAs (36 ∷ decimal value) (Column value)
+pub reads_column : (value : ℕ) → value < MAX_COLUMNS → ReadsAs (36 ∷ decimal value) (Column value)
 reads_column value most =
     let small : value < 2 ^ 64 = omega arith in
     let short : length (decimal value) ≤ 2 = length-decimal-le 2 value (omega arith) (omega arith) small in
@@ -136,11 +139,11 @@ reads_column value most =
 
 -- ---- texts
 
-pub reads_quoted : (written bytes : List ℕ) → IsUtf8 written → length bytes ≤ 65536
+pub reads_quoted : (written bytes : List ℕ) → IsUtf8 written → length bytes ≤ MAX_TEXT
     → ((rest : List ℕ) → quoted (written ++ 34 ∷ rest) ≡ Some (bytes, length written + 1)) → ReadsAs (34 ∷ written ++ 34 ∷ []) (Text bytes)
 reads_quoted written bytes utf8 most back =
     let quote : IsUtf8 (34 ∷ []) = IsUtf8-from_ascii (34 ∷ []) (IsAscii-cons 34 [] (omega arith) IsAscii-nil) in
-    let small : leb (length bytes) 65536 ≡ true = grind (arith, nat_tests) in
+    let small : leb (length bytes) MAX_TEXT ≡ true = grind (arith, nat_tests) in
     record {
       some = omega arith;
       utf8 = IsUtf8-append (34 ∷ []) (written ++ 34 ∷ []) quote (IsUtf8-append written (34 ∷ []) utf8 quote);

@@ -9,6 +9,9 @@ use Rattle.std.specs.Str.Parse.{digits_value}
 use Rattle.std.proofs.lemmas.List.{length-take}
 use Rattle.std.proofs.lemmas.List.Sums.{prefix_len-le-length}
 use Rattle.std.proofs.lemmas.List.Folds.{length-prefix_len}
+use Rattle.mit_rows.specs.declared.row.TheConstants.{MAX_COLUMNS}
+use Rattle.mit_rows.specs.declared.text.TheConstants.{MAX_TEXT}
+use Rattle.mit_lex.specs.declared.limits.TheConstants.{MAX_WORD}
 use Rattle.mit_lex.specs.Tables.{keywords, place_of, symbols}
 use Rattle.mit_lex.specs.Pieces.{column_piece, comment_len, escaped, is_blank, is_word_byte, number_piece, piece_at, quoted, symbol_piece, symbol_of, text_piece, with_byte, word_piece, word_kind}
 use Rattle.mit_lex.specs.declared.piece.Piece.{Piece}
@@ -44,7 +47,7 @@ word_fits : (first : ℕ) (rest : List ℕ) → is_word_byte first ≡ true → 
 unfolding word_piece
 word_fits first rest letter =
     let word = take_while is_word_byte (first ∷ rest) in
-    fits_if (leb (length word) 64) (Found (word_kind word (place_of word keywords)) (length word)) Refused (length (first ∷ rest))
+    fits_if (leb (length word) MAX_WORD) (Found (word_kind word (place_of word keywords)) (length word)) Refused (length (first ∷ rest))
     (λ _. (run_some is_word_byte first rest letter, run_fits is_word_byte (first ∷ rest))) (λ _. tt)
 
 column_fits : (rest : List ℕ) → Fitting (column_piece rest) (suc (length rest))
@@ -54,7 +57,7 @@ column_fits rest =
     let most = run_fits is_ascii_digit rest in
     let digits = take 2 (take_while is_ascii_digit rest) in
     let fits : 1 + length digits ≤ suc (length rest) = omega (arith, len, most) in
-    fits_if (ltb 0 (length digits) && leb (digits_value 10 digits) 15) (Found (Column (digits_value 10 digits)) (1 + length digits)) Refused (suc (length rest))
+    fits_if (ltb 0 (length digits) && ltb (digits_value 10 digits) MAX_COLUMNS) (Found (Column (digits_value 10 digits)) (1 + length digits)) Refused (suc (length rest))
     (λ _. (omega arith, fits)) (λ _. tt)
 
 -- what was read of a quoted text is at least its last quote, and no more than the text
@@ -94,7 +97,7 @@ quoted_fits (byte ∷ next ∷ rest) =
 text_fits : (read : Option (List ℕ × ℕ)) (most : ℕ) → ReadFits read most → Fitting (text_piece read) (suc most)
 text_fits None most fits = tt
 text_fits (Some read) most fits =
-    fits_if (leb (length read.0) 65536) (Found (Text read.0) (1 + read.1)) Refused (suc most) (λ _. (omega arith, omega arith)) (λ _. tt)
+    fits_if (leb (length read.0) MAX_TEXT) (Found (Text read.0) (1 + read.1)) Refused (suc most) (λ _. (omega arith, omega arith)) (λ _. tt)
 
 symbol_case : (one two : Option Piece) (most : ℕ) → Fitting (unwrap_or one Refused) most → Fitting (unwrap_or two Refused) most → Fitting (unwrap_or (option_or one two) Refused) most
 symbol_case None two most first second = second

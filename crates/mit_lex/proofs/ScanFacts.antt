@@ -8,6 +8,7 @@ use Rattle.std.proofs.lemmas.Str.{IsUtf8-from_is_utf8, is_utf8-from_IsUtf8}
 use Rattle.std.specs.Str.{IsUtf8, is_utf8}
 use Rattle.std.specs.Str.Lossy.{utf8_valid_len}
 use Rattle.mit_lex.proofs.PieceSizes.{Fitting, piece_fits}
+use Rattle.mit_lex.specs.declared.limits.TheConstants.{MAX_SCRIPT}
 use Rattle.mit_lex.specs.Limits.{first_too_many, is_too_many, open_after, run_after}
 use Rattle.mit_lex.specs.Pieces.{piece_at}
 use Rattle.mit_lex.specs.Tokens.{Scan, TellsLexFault, lexed, refused_or, scanned, tokens_of, with_piece}
@@ -143,20 +144,20 @@ skipped_fits text at size inside is = let fits = fits_here text at (Skipped size
 
 -- ---- the text as a whole
 
-pub too_long : (text : List ℕ) → 1048576 < length text → tokens_of text ≡ Err 1048576
+pub too_long : (text : List ℕ) → MAX_SCRIPT < length text → tokens_of text ≡ Err MAX_SCRIPT
 unfolding tokens_of
-too_long text long = let test : ltb 1048576 (length text) ≡ true = grind (arith, nat_tests) in rw test refl
+too_long text long = let test : ltb MAX_SCRIPT (length text) ≡ true = grind (arith, nat_tests) in rw test refl
 
-pub no_text : (text : List ℕ) → length text ≤ 1048576 → (IsUtf8 text → ⊥) → tokens_of text ≡ Err (utf8_valid_len text)
+pub no_text : (text : List ℕ) → length text ≤ MAX_SCRIPT → (IsUtf8 text → ⊥) → tokens_of text ≡ Err (utf8_valid_len text)
 unfolding tokens_of
 no_text text short bad =
-    let test : ltb 1048576 (length text) ≡ false = grind (arith, nat_tests) in
+    let test : ltb MAX_SCRIPT (length text) ≡ false = grind (arith, nat_tests) in
     elim (cases_Bool (is_utf8 text)) [ inl good ↦ absurd (bad (IsUtf8-from_is_utf8 text good)) | inr none ↦ rw (test, none) refl ]
 
-pub whole_is : (text : List ℕ) → length text ≤ 1048576 → IsUtf8 text → tokens_of text ≡ lexed (scanned 0 0 text)
+pub whole_is : (text : List ℕ) → length text ≤ MAX_SCRIPT → IsUtf8 text → tokens_of text ≡ lexed (scanned 0 0 text)
 unfolding tokens_of
 whole_is text short good =
-    let test : ltb 1048576 (length text) ≡ false = grind (arith, nat_tests) in
+    let test : ltb MAX_SCRIPT (length text) ≡ false = grind (arith, nat_tests) in
     rw (test, is_utf8-from_IsUtf8 text good) refl
 
 pub tells : (found other : Result (List Token) ℕ) (stop : LexStop) → found ≡ other → TellsLexFault found stop → TellsLexFault other stop

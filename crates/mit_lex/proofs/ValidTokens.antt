@@ -19,6 +19,9 @@ use Rattle.std.proofs.lemmas.List.Folds.{length-prefix_len}
 use Rattle.std.proofs.lemmas.Slice.Eq.{bytes_eq-Decides}
 use Rattle.std.proofs.lemmas.Str.{IsCharBoundary-after_ascii, IsCharBoundary-before_ascii, IsUtf8-append, IsUtf8-drop, IsUtf8-from_ascii, IsUtf8-from_is_utf8, IsUtf8-nil, IsUtf8-take, is_utf8-from_IsUtf8}
 use Rattle.std.proofs.lemmas.Str.Ascii.{IsAscii-cons, IsAscii-nil}
+use Rattle.mit_rows.specs.declared.row.TheConstants.{MAX_COLUMNS}
+use Rattle.mit_rows.specs.declared.text.TheConstants.{MAX_TEXT}
+use Rattle.mit_lex.specs.declared.limits.TheConstants.{MAX_SCRIPT, MAX_WORD}
 use Rattle.mit_lex.specs.Limits.{first_too_many}
 use Rattle.mit_lex.specs.Pieces.{column_piece, comment_len, escaped, is_blank, is_word_byte, number_piece, piece_at, quoted, symbol_piece, symbol_of, text_piece, with_byte, word_piece, word_kind}
 use Rattle.mit_lex.specs.Tables.{keywords, place_of, symbols}
@@ -33,7 +36,7 @@ use Rattle.mit_lex.proofs.Runs.{run_passes, stops_at}
 
 -- ---- cuts of UTF-8
 
--- behind an ASCII byte, and before it
+-- after an ASCII byte, and before it
 after_ascii : (first : List ℕ) (byte : ℕ) (rest : List ℕ) → byte < 128 → IsUtf8 (first ++ byte ∷ rest) → IsUtf8 first × IsUtf8 rest
 after_ascii first byte rest ascii utf8 =
     let text = first ++ byte ∷ rest in
@@ -47,7 +50,7 @@ after_ascii first byte rest ascii utf8 =
 later_utf8 : (byte : ℕ) (rest : List ℕ) → byte < 128 → IsUtf8 (byte ∷ rest) → IsUtf8 rest
 later_utf8 byte rest ascii utf8 = (after_ascii [] byte rest ascii utf8).1
 
--- behind a run of ASCII bytes
+-- after a run of ASCII bytes
 behind_run : (p : ℕ → Bool) → ((byte : ℕ) → p byte ≡ true → byte < 128) → (n : ℕ) (text : List ℕ) → list_all p (take n text) ≡ true → IsUtf8 text → IsUtf8 (drop n text)
 behind_run p small zero text all utf8 = utf8
 behind_run p small (suc n) [] all utf8 = utf8
@@ -57,7 +60,7 @@ behind_run p small (suc n) (byte ∷ rest) all utf8 =
 
 -- ---- quoted texts
 
--- what was read of a quoted text, behind bytes that were read before
+-- what was read of a quoted text, after bytes that were read before
 abbrev ReadWell : List ℕ → List ℕ → Option (List ℕ × ℕ) → Type 0
 ReadWell before text None = ⊤
 ReadWell before text (Some read) = IsUtf8 (before ++ read.0) × IsUtf8 (drop read.1 text) × (list_all (λ byte. not (eqb byte 13)) read.0 ≡ true)
@@ -96,7 +99,7 @@ escaped_small byte meant e = (grind (arith, nat_tests), grind (arith, nat_tests)
 escaped_next : (byte meant : ℕ) → escaped byte ≡ Some meant → byte < 128
 escaped_next byte meant e = grind (arith, nat_tests)
 
--- behind an escape the text goes on
+-- after an escape the text goes on
 escape_rest : (before : List ℕ) (next : ℕ) (rest : List ℕ) (meant : Option ℕ) → escaped next ≡ meant → IsUtf8 (before ++ 92 ∷ next ∷ rest) → (meant ≡ None) ⊎ IsUtf8 rest
 escape_rest before next rest None e utf8 = inl refl
 escape_rest before next rest (Some is) e utf8 =
@@ -126,7 +129,7 @@ quoted_well (byte ∷ next ∷ rest) before utf8 =
 
 -- ---- pieces
 
--- a token is one of a text, and the text goes on behind the piece
+-- a token is one of a text, and the text goes on after the piece
 abbrev Good : Piece → List ℕ → Type 0
 Good (Skipped size) text = IsUtf8 (drop size text)
 Good (Found kind size) text = IsToken kind × IsUtf8 (drop size text)
@@ -142,7 +145,7 @@ digit_small byte digit = grind (arith, nat_tests)
 word_small : (byte : ℕ) → is_word_byte byte ≡ true → byte < 128
 word_small byte word = grind (arith, nat_tests)
 
--- behind the longest run
+-- after the longest run
 behind_longest : (p : ℕ → Bool) → ((byte : ℕ) → p byte ≡ true → byte < 128) → (text : List ℕ) → IsUtf8 text → IsUtf8 (drop (length (take_while p text)) text)
 behind_longest p small text utf8 = rw (length-prefix_len p text) (behind_run p small (prefix_len p text) text (run_passes p text) utf8)
 
@@ -153,7 +156,7 @@ number_good text utf8 =
     good_if (leb (digits_value 10 digits) (2 ^ 63)) (Found (Number (digits_value 10 digits)) (length digits)) Refused text
     (λ low. (grind (arith, nat_tests), behind_longest is_ascii_digit digit_small text utf8)) (λ high. tt)
 
-word_kind_good : (word : List ℕ) (place : Option ℕ) → place_of word keywords ≡ place → is_word word ≡ true → length word ≤ 64 → IsToken (word_kind word place)
+word_kind_good : (word : List ℕ) (place : Option ℕ) → place_of word keywords ≡ place → is_word word ≡ true → length word ≤ MAX_WORD → IsToken (word_kind word place)
 unfolding keywords
 word_kind_good word None is letters short = record { word = letters; short = short; free = is }
 word_kind_good word (Some place) is letters short = (position-Some (λ listed. bytes_eq listed word) keywords place [] is).0
@@ -166,7 +169,7 @@ word_good : (first : ℕ) (rest : List ℕ) → is_ascii_digit first ≡ false �
 unfolding word_piece
 word_good first rest digit letter utf8 =
     let word = take_while is_word_byte (first ∷ rest) in
-    good_if (leb (length word) 64) (Found (word_kind word (place_of word keywords)) (length word)) Refused (first ∷ rest)
+    good_if (leb (length word) MAX_WORD) (Found (word_kind word (place_of word keywords)) (length word)) Refused (first ∷ rest)
     (λ low. (
       word_kind_good word (place_of word keywords) refl (word_is_word first rest digit letter) (grind (arith, nat_tests)),
       behind_longest is_word_byte word_small (first ∷ rest) utf8,
@@ -181,8 +184,8 @@ passes_below p (suc n) (x ∷ xs) most =
       | inr fails ↦ let none = rw fails at most in absurd (omega arith)
     ]
 
-column_low : (size value : ℕ) → ltb 0 size && leb value 15 ≡ true → value ≤ 15
-column_low size value low = let parts = and_parts (ltb 0 size) (leb value 15) low in grind (arith, nat_tests, parts.1)
+column_low : (size value : ℕ) → ltb 0 size && ltb value MAX_COLUMNS ≡ true → value < MAX_COLUMNS
+column_low size value low = let parts = and_parts (ltb 0 size) (ltb value MAX_COLUMNS) low in grind (arith, nat_tests, parts.1)
 
 column_good : (rest : List ℕ) → IsUtf8 rest → Good (column_piece rest) (36 ∷ rest)
 unfolding column_piece
@@ -192,7 +195,7 @@ column_good rest utf8 =
     let run = length-prefix_len is_ascii_digit rest in
     let short : length digits ≤ prefix_len is_ascii_digit rest = omega (arith, length-take 2 (take_while is_ascii_digit rest), run) in
     let behind = behind_run is_ascii_digit digit_small (length digits) rest (passes_below is_ascii_digit (length digits) rest short) utf8 in
-    good_if (ltb 0 (length digits) && leb (digits_value 10 digits) 15) (Found (Column (digits_value 10 digits)) (1 + length digits)) Refused (36 ∷ rest)
+    good_if (ltb 0 (length digits) && ltb (digits_value 10 digits) MAX_COLUMNS) (Found (Column (digits_value 10 digits)) (1 + length digits)) Refused (36 ∷ rest)
     (λ low. (column_low (length digits) (digits_value 10 digits) low, rw one behind)) (λ high. tt)
 
 feed_small : (byte : ℕ) → not (eqb byte 10) ≡ false → byte < 128
@@ -215,7 +218,7 @@ read_good : (rest : List ℕ) (read : Option (List ℕ × ℕ)) → ReadWell [] 
 read_good rest None well = tt
 read_good rest (Some read) well =
     let one : 1 + read.1 ≡ suc read.1 = omega arith in
-    good_if (leb (length read.0) 65536) (Found (Text read.0) (1 + read.1)) Refused (34 ∷ rest)
+    good_if (leb (length read.0) MAX_TEXT) (Found (Text read.0) (1 + read.1)) Refused (34 ∷ rest)
     (λ low. (record { short = grind (arith, nat_tests); utf8 = is_utf8-from_IsUtf8 read.0 well.0; lines = well.2 }, rw one well.1)) (λ high. tt)
 
 text_good : (rest : List ℕ) → IsUtf8 rest → Good (text_piece (quoted rest)) (34 ∷ rest)
@@ -301,7 +304,7 @@ piece_good first rest utf8 =
 abbrev IsValid : Token → Type 0
 IsValid token = IsToken token.kind
 
--- behind a piece the text goes on
+-- after a piece the text goes on
 rest_utf8 : (byte size : ℕ) (rest : List ℕ) → 0 < size → IsUtf8 (drop size (byte ∷ rest)) → IsUtf8 (drop (size - 1) rest)
 rest_utf8 byte zero rest some utf8 = absurd (omega arith)
 rest_utf8 byte (suc size) rest some utf8 = let same : suc size - 1 ≡ size = omega arith in rw same utf8
@@ -328,8 +331,8 @@ found_valid (Some place) tokens found is valid = cc
 pub tokens_valid : (text : List ℕ) (tokens : List Token) → tokens_of text ≡ Ok tokens → All (λ token. IsToken token.kind) tokens
 unfolding tokens_of
 tokens_valid text tokens is =
-    elim (cases_Bool (ltb 1048576 (length text))) [
-      | inl long ↦ let none : ◌≡◌ {A = Result (List Token) ℕ} (Err 1048576) (Ok tokens) = rw long at is in cc
+    elim (cases_Bool (ltb MAX_SCRIPT (length text))) [
+      | inl long ↦ let none : ◌≡◌ {A = Result (List Token) ℕ} (Err MAX_SCRIPT) (Ok tokens) = rw long at is in cc
       | inr short ↦ elim (cases_Bool (is_utf8 text)) [
         | inl utf8 ↦
             let scan = scanned 0 0 text in

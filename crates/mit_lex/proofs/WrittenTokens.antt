@@ -10,7 +10,7 @@ use Rattle.std.proofs.lemmas.Str.{IsUtf8-from_ascii}
 use Rattle.mit_lex.specs.Pieces.{piece_at, symbol_piece, word_piece}
 use Rattle.mit_lex.specs.Tables.{keywords, symbols}
 use Rattle.mit_lex.specs.Valid.{IsToken}
-use Rattle.mit_lex.specs.Written.{IsGap, IsWrittenAs, gap_first, no_more, token_first, written}
+use Rattle.mit_lex.specs.Written.{IsGap, IsWrittenAs, gap_first, no_more, token_first, token_text}
 use Rattle.mit_lex.specs.declared.piece.Piece.{Piece}
 use Rattle.mit_lex.specs.declared.piece.Piece.TheVariants.{Found}
 use Rattle.mit_lex.specs.declared.token.TokenKind.{TokenKind}
@@ -104,7 +104,7 @@ table_reads kind table place inside all =
 
 -- ---- tokens and texts
 
-reads_token : (kind : TokenKind) → IsToken kind → ReadsAs (written kind) kind
+reads_token : (kind : TokenKind) → IsToken kind → ReadsAs (token_text kind) kind
 unfolding symbols keywords
 reads_token (Name name) valid = reads_name name valid
 reads_token (Number value) valid = reads_number value valid
@@ -117,4 +117,4 @@ pub written_cuts : {text : List ℕ} {kinds : List TokenKind} → IsWrittenAs te
 written_cuts no_more = cuts_nil
 written_cuts (gap_first gap is_gap later) = cuts_append (cuts_gap gap is_gap) (written_cuts later)
 written_cuts (token_first {text = text} kind gap valid is_gap later) =
-    rw (← append_assoc (written kind) (gap ∷ []) text) (cuts_append (cuts_token gap is_gap (reads_token kind valid)) (written_cuts later))
+    rw (← append_assoc (token_text kind) (gap ∷ []) text) (cuts_append (cuts_token gap is_gap (reads_token kind valid)) (written_cuts later))

@@ -4,6 +4,7 @@ use Rattle.std.specs.Option.{option_or}
 use Rattle.std.specs.List.{prefix_len, take_while}
 use Rattle.std.specs.Char.{is_ascii_alphanumeric, is_ascii_digit}
 use Rattle.std.specs.Str.Parse.{digits_value}
+use Rattle.mit_rows.specs.declared.row.TheConstants.{MAX_COLUMNS}
 use Rattle.mit_rows.specs.declared.text.TheConstants.{MAX_TEXT}
 use Rattle.mit_lex.specs.declared.limits.TheConstants.{MAX_WORD}
 use Rattle.mit_lex.specs.Tables.{keywords, place_of, symbols}
@@ -29,7 +30,7 @@ abbrev pub word_kind : List ℕ → Option ℕ → TokenKind
 word_kind word (Some place) = Keyword place
 word_kind word None = Name word
 
--- a word: the longest run of letters, digits and `_`, of at most 64 bytes
+-- a word: the longest run of letters, digits and `_`, of at most `MAX_WORD` bytes
 unfoldable pub word_piece : List ℕ → Piece
 word_piece text =
     let word = take_while is_word_byte text in
@@ -41,11 +42,11 @@ number_piece text =
     let digits = take_while is_ascii_digit text in
     if nat_le (digits_value 10 digits) (2 ^ 63) then Found (Number (digits_value 10 digits)) (length digits) else Refused
 
--- a column, from the byte after its `$` on: one or two digits of a value of at most 15, and two where there are two
+-- a column, from the byte after its `$` on: one or two digits of a value below the most columns, and two where there are two
 unfoldable pub column_piece : List ℕ → Piece
 column_piece text =
     let digits = take 2 (take_while is_ascii_digit text) in
-    if nat_lt 0 (length digits) && nat_le (digits_value 10 digits) 15 then Found (Column (digits_value 10 digits)) (1 + length digits) else Refused
+    if nat_lt 0 (length digits) && nat_lt (digits_value 10 digits) MAX_COLUMNS then Found (Column (digits_value 10 digits)) (1 + length digits) else Refused
 
 -- the byte that is written as `\` and this one: `\"`, `\\`, `\n` and `\t`
 abbrev pub escaped : ℕ → Option ℕ
@@ -68,7 +69,7 @@ quoted (byte ∷ next ∷ rest) =
     else (if (byte == 10) || (byte == 13) then None
     else with_byte byte 1 (quoted (next ∷ rest))))
 
--- it is a token where it has at most 65,536 bytes
+-- it is a token where it has at most `MAX_TEXT` bytes
 abbrev pub text_piece : Option (List ℕ × ℕ) → Piece
 text_piece None = Refused
 text_piece (Some read) = if nat_le (length read.0) MAX_TEXT then Found (Text read.0) (1 + read.1) else Refused

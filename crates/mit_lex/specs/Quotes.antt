@@ -1,4 +1,4 @@
--- A device of the proofs: nobody has to believe it. The parts in which a quoted text is read.
+-- Devices of the proofs: nobody has to believe them. The parts in which a quoted text is read.
 use Rattle.std.specs.Prelude.{ℕ, List, [], ◌∷◌, Bool, false, not, ◌==◌, ◌||◌, if◌then◌else◌, Option, None}
 use Rattle.mit_lex.specs.Pieces.{escaped}
 

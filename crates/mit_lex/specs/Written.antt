@@ -16,13 +16,13 @@ abbrev pub between_quotes : List ℕ → List ℕ
 between_quotes bytes = codes "\"" ++ flat_map escaped_as bytes ++ codes "\""
 
 -- a token as it is written: a number without zeros before it, and a text with an escape only where it needs one
-abbrev pub written : TokenKind → List ℕ
-written (Name word) = word
-written (Number value) = decimal value
-written (Column value) = codes "$" ++ decimal value
-written (Text bytes) = between_quotes bytes
-written (Symbol place) = unwrap_or (slice_get symbols place) []
-written (Keyword place) = unwrap_or (slice_get keywords place) []
+abbrev pub token_text : TokenKind → List ℕ
+token_text (Name word) = word
+token_text (Number value) = decimal value
+token_text (Column value) = codes "$" ++ decimal value
+token_text (Text bytes) = between_quotes bytes
+token_text (Symbol place) = unwrap_or (slice_get symbols place) []
+token_text (Keyword place) = unwrap_or (slice_get keywords place) []
 
 -- a blank or a line feed
 abbrev pub IsGap : ℕ → Type 0
@@ -33,4 +33,4 @@ pub data IsWrittenAs : List ℕ → List TokenKind → Type 0 where
   no_more : IsWrittenAs [] []
   gap_first : {text : List ℕ} {kinds : List TokenKind} → (gap : ℕ) → IsGap gap → IsWrittenAs text kinds → IsWrittenAs (gap ∷ text) kinds
   token_first : {text : List ℕ} {kinds : List TokenKind} → (kind : TokenKind) → (gap : ℕ) → IsToken kind → IsGap gap → IsWrittenAs text kinds
-      → IsWrittenAs (written kind ++ gap ∷ text) (kind ∷ kinds)
+      → IsWrittenAs (token_text kind ++ gap ∷ text) (kind ∷ kinds)

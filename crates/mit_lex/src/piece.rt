@@ -9,14 +9,11 @@ use crate::limits::MAX_WORD;
 use crate::quoted::quoted;
 use crate::tables::{keyword_place, symbol_place};
 use crate::token::TokenKind;
-use mit_rows::{Text, TextRefused};
+use mit_rows::{MAX_COLUMNS, Text, TextRefused};
 use std::alloc::{AllocError, Global};
 
 /// The greatest number: the size of the smallest integer.
 const MAX_NUMBER: u64 = 9_223_372_036_854_775_808;
-
-/// The greatest column.
-const MAX_COLUMN: u64 = 15;
 
 /// What stands at the front of a text.
 #[derive(Drop)]
@@ -143,7 +140,7 @@ fn column(text: &[u8]) -> Piece
 {
     let digits = front(front_digits(text), 2);
     match number_of(digits) {
-        Some(value) if !digits.is_empty() && value <= MAX_COLUMN => {
+        Some(value) if !digits.is_empty() && value < MAX_COLUMNS as u64 => {
             Piece::Found(TokenKind::Column(value as u8), 1 + digits.len())
         }
         _ => Piece::Refused,

@@ -1,6 +1,6 @@
 ghost use Rattle.std.specs.Prelude.{◌≡◌, ◌<◌, [], IfSome, bytes_eq, length, map, position, slice_get, unwrap_or};
 ghost use Rattle.mit_lex.specs.Tables.{keywords, place_of, symbols};
-ghost use Rattle.mit_lex.specs.Written.{written};
+ghost use Rattle.mit_lex.specs.Written.{token_text};
 ghost use Rattle.mit_lex.specs.declared.token.TokenKind.TheVariants as token;
 
 /// The symbols; a token has the place of its own.
@@ -85,7 +85,7 @@ fn index_among(list: &[&[u8]], bytes: &[u8]) -> Option<usize>
 /// The bytes of a symbol, by its place in the table.
 #[tactic(auto, unfolding(crate::specs::Tables::symbols))]
 pub fn symbol_bytes(place: u8) -> &'static [u8]
-    ensures { result.now ≡ written (token.Symbol place) }
+    ensures { result.now ≡ token_text (token.Symbol place) }
 {
     bytes_at(&SYMBOLS, place)
 }
@@ -93,7 +93,7 @@ pub fn symbol_bytes(place: u8) -> &'static [u8]
 /// The bytes of a keyword, by its place in the table.
 #[tactic(auto, unfolding(crate::specs::Tables::keywords))]
 pub fn keyword_bytes(place: u8) -> &'static [u8]
-    ensures { result.now ≡ written (token.Keyword place) }
+    ensures { result.now ≡ token_text (token.Keyword place) }
 {
     bytes_at(&KEYWORDS, place)
 }

@@ -1,13 +1,13 @@
 //! How a text is written between its quotes.
 ghost use Rattle.std.specs.Prelude.{◌≡◌, ◌++◌, flat_map, OnOk};
-ghost use Rattle.mit_lex.specs.Written.{escaped_as, written};
+ghost use Rattle.mit_lex.specs.Written.{escaped_as, token_text};
 ghost use Rattle.mit_lex.specs.declared.token.TokenKind.TheVariants as token;
 
 use std::alloc::AllocError;
 
 /// Adds a text between its quotes.
 pub fn add_quoted(text: &mut Vec<u8>, bytes: &[u8]) -> Result<(), AllocError>
-    ensures { OnOk result (text.new.items ≡ text.old.items ++ written (token.Text bytes.now)) }
+    ensures { OnOk result (text.new.items ≡ text.old.items ++ token_text (token.Text bytes.now)) }
 {
     text.push(b'"')?;
     add_all_escaped(text, bytes)?;
