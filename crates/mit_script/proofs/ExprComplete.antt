@@ -8,7 +8,7 @@ use Rattle.mit_expr.specs.declared.expr.Expr.TheVariants as expr
 use Rattle.mit_lex.specs.declared.token.TokenKind.TheVariants.{Number, Symbol}
 use Rattle.mit_lex.specs.declared.symbol.TheConstants as symbol
 use Rattle.mit_script.specs.Grammar.{Kinds, SpellsExpr, stronger, binary, negated, positive, negative, text_literal, truth_literal, column_place, captured_name, called, enclosed, operator_token}
-use Rattle.mit_script.specs.Reading.{Reading, ◌>>=◌, alone, behind, called_at, chain, chain_by, chain_from, compared, comparison, enclosed_at, expect_symbol, expression, negation, negative_at, operator_at, primary, ranked, ranked_operator, sees_word}
+use Rattle.mit_script.specs.Reading.{Reading, ◌>>=◌, alone, after_next, called_at, chain, chain_by, chain_from, compared, comparison, enclosed_at, expect_symbol, expression, negation, negative_at, operator_at, primary, ranked, ranked_operator, sees_word}
 use Rattle.mit_script.proofs.ExprFacts.{EndsRank, ends_none, ends_operator, ends_weaker, none_ranked, rank_below, rank_not_two, ranked_operator-token}
 use Rattle.mit_script.proofs.ExprForms.{Chain, Chained, Compared, IsChained, chained, is_chained, is_compared, more, no_more, no_not, one, spelled_long, spelled_rank, two}
 
@@ -88,7 +88,7 @@ not_complete : (number : List ℕ → ℕ) (inner operand : Kinds → Reading Ex
 unfolding negation sees_word
 not_complete number inner operand most inside complete {e = e} {tokens = tokens} (stronger spelled) is after ends few =
     let higher = subst (λ r. SpellsExpr number (suc r) e tokens) is spelled in
-    ap (λ seen. if seen then (inner (behind (tokens ++ after)) >>= λ e. Ok (expr.Not e.0, e.1)) else operand (tokens ++ after)) (no_not number higher (omega arith) after)
+    ap (λ seen. if seen then (inner (after_next (tokens ++ after)) >>= λ e. Ok (expr.Not e.0, e.1)) else operand (tokens ++ after)) (no_not number higher (omega arith) after)
     ∙ complete e tokens after higher (ends_weaker 2 after ends) few
 not_complete number inner operand most inside complete (binary op left right) is after ends few = absurd (rank_not_two op is)
 not_complete number inner operand most inside complete (negated {e = e} {tokens = tokens} spelled) is after ends few =

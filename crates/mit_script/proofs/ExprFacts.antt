@@ -9,7 +9,7 @@ use Rattle.mit_lex.specs.declared.token.TokenKind.TheVariants.{Symbol, Keyword}
 use Rattle.mit_lex.specs.declared.symbol.TheConstants as symbol
 use Rattle.mit_lex.specs.declared.keyword.TheConstants as word
 use Rattle.mit_script.specs.Grammar.{Kinds, operator_token, call_token}
-use Rattle.mit_script.specs.Reading.{behind, call_of_word, of_rank, operator_at, operator_of_symbol, operator_of_word, ranked_operator}
+use Rattle.mit_script.specs.Reading.{after_next, call_of_word, of_rank, operator_at, operator_of_symbol, operator_of_word, ranked_operator}
 use Rattle.mit_script.specs.Grammar.{rank_of}
 use Rattle.mit_script.proofs.Readers.{first_of, found_at, some_or_none}
 
@@ -61,7 +61,7 @@ call_found place function is =
         found_at (place == wanted) here function further (λ at. Keyword place ≡ call_token at) (λ so. ap Keyword (eqb-true place wanted so) ∙ token) later
 
 -- an operator ahead is the first token
-pub operator_ahead : (op : BinOp) (tokens : Kinds) → operator_at tokens ≡ Some op → tokens ≡ operator_token op ∷ behind tokens
+pub operator_ahead : (op : BinOp) (tokens : Kinds) → operator_at tokens ≡ Some op → tokens ≡ operator_token op ∷ after_next tokens
 unfolding operator_at
 operator_ahead op (Symbol place ∷ rest) is = ap (λ token. token ∷ rest) (symbol_found place op is)
 operator_ahead op (Keyword place ∷ rest) is = ap (λ token. token ∷ rest) (word_found place op is)
@@ -100,7 +100,7 @@ of_rank_found rank (Some here) op is = go (rank_of here == rank) refl is
 pub of_rank_none : (rank : ℕ) (op : BinOp) → of_rank rank (Some op) ≡ None → rank_of op ≡ rank → ⊥
 of_rank_none rank op none is = some_or_none op (sym (of_rank-some rank op is) ∙ none)
 
-pub ranked_ahead : (rank : ℕ) (tokens : Kinds) (op : BinOp) → ranked_operator rank tokens ≡ Some op → (tokens ≡ operator_token op ∷ behind tokens) × (rank_of op ≡ rank)
+pub ranked_ahead : (rank : ℕ) (tokens : Kinds) (op : BinOp) → ranked_operator rank tokens ≡ Some op → (tokens ≡ operator_token op ∷ after_next tokens) × (rank_of op ≡ rank)
 unfolding ranked_operator
 ranked_ahead rank tokens op is = let found = of_rank_found rank (operator_at tokens) op is in (operator_ahead op tokens found.0, found.1)
 

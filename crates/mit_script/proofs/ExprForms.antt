@@ -10,7 +10,7 @@ use Rattle.mit_script.specs.Reading.{sees_word}
 use Rattle.mit_script.specs.Grammar.{left_rank, rank_of, right_rank}
 use Rattle.mit_script.proofs.ExprFacts.{rank_below}
 
--- an operator of this rank and an operand behind it, any number of times, from what stands left of them to the whole
+-- an operator of this rank and an operand after it, any number of times, from what stands left of them to the whole
 pub data Chain (number : List ℕ → ℕ) (rank : ℕ) : Expr → Expr → Kinds → Type 0 where
   no_more : {left : Expr} → Chain number rank left left []
   more : {left right e : Expr} {tokens others : Kinds} → (op : BinOp) → rank_of op ≡ rank → SpellsExpr number (suc rank) right tokens

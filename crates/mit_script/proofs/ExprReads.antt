@@ -1,4 +1,4 @@
--- What is read as an expression, or as one of a rank, is spelled, and reading depends on no token behind the first one that it leaves.
+-- What is read as an expression, or as one of a rank, is spelled, and reading depends on no token after the first one that it leaves.
 use Rattle.std.proofs.Common.{◌≡◌, ℕ, zero, suc, ◌+◌, ◌<◌, ◌≤◌, ◌^◌, List, [], ◌∷◌, ◌++◌, length, Bool, true, false, nat_lt, nat_le, ◌==◌, if◌then◌else◌, Option, Some, None, Ok, Err, pos, neg_ℤ, refl, sym, ap, ◌∙◌, subst, append-nil, length-append, le_of_suc-le-suc, not-suc-le-zero, arith, eqb-true, ltb-true, leb-true}
 use Rattle.mit_rows.specs.declared.value.Value.TheVariants as value
 use Rattle.mit_expr.specs.declared.expr.BinOp.{BinOp}
@@ -9,9 +9,9 @@ use Rattle.mit_lex.specs.declared.token.TokenKind.TheVariants.{Name, Number, Col
 use Rattle.mit_lex.specs.declared.symbol.TheConstants as symbol
 use Rattle.mit_lex.specs.declared.keyword.TheConstants as word
 use Rattle.mit_script.specs.Grammar.{Kinds, SpellsExpr, stronger, negated, positive, negative, text_literal, truth_literal, column_place, captured_name, called, enclosed, operator_token, call_token}
-use Rattle.mit_script.specs.Reading.{Reading, ◌>>=◌, alone, any_expression, behind, call_by, call_of_word, called_at, chain, chain_by, chain_from, compared, comparison, enclosed_at, expect_symbol, expression, negation, negative_at, primary, ranked, ranked_operator, sees_word}
+use Rattle.mit_script.specs.Reading.{Reading, ◌>>=◌, alone, any_expression, after_next, call_by, call_of_word, called_at, chain, chain_by, chain_from, compared, comparison, enclosed_at, expect_symbol, expression, negation, negative_at, primary, ranked, ranked_operator, sees_word}
 use Rattle.mit_script.specs.Grammar.{rank_of}
-use Rattle.mit_script.proofs.Readers.{Bounded, IsSymbol, Reads, Whatever, left_below, reads_as, reads_behind, reads_if, reads_made, reads_none, reads_symbol, reads_then, reads_token, reads_where, refuses, refuses_end, refuses_token, word_local, word_seen}
+use Rattle.mit_script.proofs.Readers.{Bounded, IsSymbol, Reads, Anything, left_below, reads_as, reads_behind, reads_if, reads_made, reads_none, reads_symbol, reads_then, reads_token, reads_where, refuses, refuses_end, refuses_token, word_local, word_seen}
 use Rattle.mit_script.proofs.ExprFacts.{EndsRank, call_found, ends_here, ends_not, rank_below, ranked_ahead, ranked_operator-first, ranked_operator-token}
 use Rattle.mit_script.proofs.ExprForms.{Chain, chain_spelled, comparison_spelled, more, no_more, spelled_long}
 
@@ -35,7 +35,7 @@ nought_spelled number = stronger (stronger (stronger (stronger (stronger (strong
 
 module _ {X : Type 0} (number : List ℕ → ℕ) (rank most : ℕ) (not_three : (rank == 3) ≡ false)
     (operands : X → Kinds → Reading Expr) (operand : Kinds → Reading Expr) (reads_operand : ReadsRank number (suc rank) most operands operand) where
-  -- an operator and what stands behind it
+  -- an operator and what stands after it
   reads_operator : (turns : ℕ) (op : BinOp) → rank_of op ≡ rank → (left : Expr) (rest : Kinds) → length rest < turns → length rest < most
       → ((left : Expr) (tokens : Kinds) → length tokens < turns → length tokens < most → EndsRank (suc rank) tokens
       → Reads (Chain number rank left) (EndsRank rank) (λ (y : Bounded X turns × Expr) (later : Kinds). chain_from (operands y.0.0) rank y.0.1 y.1 later) tokens
@@ -76,11 +76,11 @@ module _ {X : Type 0} (number : List ℕ → ℕ) (rank most : ℕ) (not_three :
       (λ y later same. (y.1, ap (λ found. chain_by (chain_from (operands y.0.0) rank y.0.1) (operands y.0.0) found y.1 later) (ranked_operator-first rank later tokens same ∙ is)))
   reads_by turns left tokens (Some op) is short few ends reads_rest =
       let ahead = ranked_ahead rank tokens op is in
-      let longer : length tokens ≡ suc (length (behind tokens)) = ap length ahead.0 in
+      let longer : length tokens ≡ suc (length (after_next tokens)) = ap length ahead.0 in
       subst (λ all. Reads (Chain number rank left) (EndsRank rank)
       (λ (y : Bounded X turns × Expr) (later : Kinds). chain_by (chain_from (operands y.0.0) rank y.0.1) (operands y.0.0) (ranked_operator rank later) y.1 later)
-      all (operand (behind tokens) >>= λ right. chain_from operand rank turns (expr.Bin op left right.0) right.1)) (sym ahead.0)
-      (reads_operator turns op ahead.1 left (behind tokens) (omega arith) (omega arith) reads_rest)
+      all (operand (after_next tokens) >>= λ right. chain_from operand rank turns (expr.Bin op left right.0) right.1)) (sym ahead.0)
+      (reads_operator turns op ahead.1 left (after_next tokens) (omega arith) (omega arith) reads_rest)
 
   turn_given : (turns : ℕ) (x : X) (bound : ℕ) (left : Expr) → suc turns ≤ bound → (y : Bounded X turns × Expr)
       × ((later : Kinds) → chain_from (operands x) rank bound left later ≡ chain_by (chain_from (operands y.0.0) rank y.0.1) (operands y.0.0) (ranked_operator rank later) y.1 later)
@@ -117,7 +117,7 @@ module _ {X : Type 0} (number : List ℕ → ℕ) (rank most : ℕ) (not_three :
 
 -- ---- comparisons
 
--- what stands behind the first operand of a comparison: nothing, or an operator and another operand
+-- what stands after the first operand of a comparison: nothing, or an operator and another operand
 data Rest (number : List ℕ → ℕ) (left : Expr) : Expr → Kinds → Type 0 where
   nothing : Rest number left left []
   compares : {right : Expr} {tokens : Kinds} → (op : BinOp) → rank_of op ≡ 3 → SpellsExpr number 4 right tokens
@@ -166,10 +166,10 @@ module _ {X : Type 0} (number : List ℕ → ℕ) (most : ℕ) (operands : X →
       (λ y later same. (y.1, ap (λ found. compared (operands y.0) found y.1 later) (ranked_operator-first 3 later tokens same ∙ is)))
   reads_compared left tokens (Some op) is few ends =
       let ahead = ranked_ahead 3 tokens op is in
-      let longer : length tokens ≡ suc (length (behind tokens)) = ap length ahead.0 in
+      let longer : length tokens ≡ suc (length (after_next tokens)) = ap length ahead.0 in
       subst (λ all. Reads (Rest number left) (EndsRank 3) (λ (y : X × Expr) (later : Kinds). compared (operands y.0) (ranked_operator 3 later) y.1 later)
-      all (operand (behind tokens) >>= λ right. alone (ranked_operator 3 right.1) (expr.Bin op left right.0) right.1)) (sym ahead.0)
-      (reads_second op ahead.1 left (behind tokens) (omega arith))
+      all (operand (after_next tokens) >>= λ right. alone (ranked_operator 3 right.1) (expr.Bin op left right.0) right.1)) (sym ahead.0)
+      (reads_second op ahead.1 left (after_next tokens) (omega arith))
 
   reads_comparison : ReadsRank number 3 most (λ x. comparison (operands x)) (comparison operand)
   unfolding comparison
@@ -188,22 +188,22 @@ module _ {X : Type 0} (number : List ℕ → ℕ) (most : ℕ) (inners operands 
     (reads_inner : ReadsRank number 2 most inners inner) (reads_operand : ReadsRank number 3 (suc most) operands operand) where
   reads_not : (tokens : Kinds) (seen : Bool) → sees_word word.NOT tokens ≡ seen → length tokens < suc most
       → Reads (SpellsExpr number 2) (EndsRank 2) (λ (x : X) (later : Kinds). negation (inners x) (operands x) later) tokens
-      (if seen then (inner (behind tokens) >>= λ e. Ok (expr.Not e.0, e.1)) else operand tokens)
+      (if seen then (inner (after_next tokens) >>= λ e. Ok (expr.Not e.0, e.1)) else operand tokens)
   unfolding negation sees_word
   reads_not tokens true is few =
       let whole = word_seen word.NOT tokens is in
-      let longer : length tokens ≡ suc (length (behind tokens)) = ap length whole in
+      let longer : length tokens ≡ suc (length (after_next tokens)) = ap length whole in
       subst (λ all. Reads (SpellsExpr number 2) (EndsRank 2) (λ (x : X) (later : Kinds). negation (inners x) (operands x) later) all
-      (inner (behind tokens) >>= λ e. Ok (expr.Not e.0, e.1))) (sym whole)
+      (inner (after_next tokens) >>= λ e. Ok (expr.Not e.0, e.1))) (sym whole)
       (reads_behind (Keyword word.NOT) (SpellsExpr number 2) (λ (x : X) (later : Kinds). negation (inners x) (operands x) later)
       (λ e used spelled. spelled) (λ x later. refl)
       (reads_made (λ e used. SpellsExpr number 2 e (Keyword word.NOT ∷ used)) (λ e. expr.Not e) (λ x e. expr.Not e) (λ e used spelled. negated spelled)
-      (reads_inner (behind tokens) (omega arith))))
+      (reads_inner (after_next tokens) (omega arith))))
   reads_not tokens false is few =
       reads_where (λ (x : X) (later : Kinds). negation (inners x) (operands x) later)
       (λ x. (
         x,
-        λ later same. ap (λ seen. if seen then (inners x (behind later) >>= λ e. Ok (expr.Not e.0, e.1)) else operands x later)
+        λ later same. ap (λ seen. if seen then (inners x (after_next later) >>= λ e. Ok (expr.Not e.0, e.1)) else operands x later)
             (word_local word.NOT later tokens same ∙ is),
       ))
       (reads_as (SpellsExpr number 2) (EndsRank 2) operands (λ e used spelled. stronger spelled) (λ rest ends. ends_not rest ends) (λ x. (x, λ later. refl))
@@ -216,7 +216,7 @@ module _ {X : Type 0} (number : List ℕ → ℕ) (most : ℕ) (inners operands 
 -- ---- what stands alone
 
 negative_reads : {X : Type 0} (number : List ℕ → ℕ) (tokens : Kinds)
-    → Reads (λ e used. SpellsExpr number 7 e (Symbol symbol.MINUS ∷ used)) Whatever (λ (x : X) (later : Kinds). negative_at later) tokens (negative_at tokens)
+    → Reads (λ e used. SpellsExpr number 7 e (Symbol symbol.MINUS ∷ used)) Anything (λ (x : X) (later : Kinds). negative_at later) tokens (negative_at tokens)
 unfolding negative_at
 negative_reads number [] = refuses_end (expr.Lit (value.Int (neg_ℤ (pos 0)))) (Number 0 ∷ []) (negative 0 (omega arith)) (λ x. refl)
 negative_reads number (Number size ∷ rest) =
@@ -232,22 +232,22 @@ keyword_by inner is_true is_false place rest =
 
 module _ {X : Type 0} (number : List ℕ → ℕ) (most : ℕ) (numbers : X → List ℕ → ℕ) (inners : X → Kinds → Reading Expr) (inner : Kinds → Reading Expr)
     (reads_inner : ReadsRank number 0 most inners inner) where
-  -- an expression and the `)` behind it
+  -- an expression and the `)` after it
   abbrev Closed : Expr → Kinds → Type 0
   Closed e tokens = (inside : Kinds) × (tokens ≡ inside ++ Symbol symbol.RIGHT_PAREN ∷ []) × SpellsExpr number 0 e inside
 
   reads_closing : (e : Expr) (tokens : Kinds)
-      → Reads (λ item used. (item ≡ e) × (used ≡ Symbol symbol.RIGHT_PAREN ∷ [])) Whatever
+      → Reads (λ item used. (item ≡ e) × (used ≡ Symbol symbol.RIGHT_PAREN ∷ [])) Anything
       (λ (y : X × Expr) (later : Kinds). expect_symbol symbol.RIGHT_PAREN later >>= λ end. Ok (y.1, end.1))
       tokens (expect_symbol symbol.RIGHT_PAREN tokens >>= λ end. Ok (e, end.1))
   reads_closing e tokens =
       reads_made (λ item used. (item ≡ e) × (used ≡ Symbol symbol.RIGHT_PAREN ∷ [])) (λ end. e) (λ (y : X × Expr) end. y.1) (λ end used is. (refl, is))
       (reads_symbol symbol.RIGHT_PAREN tokens)
 
-  reads_enclosed : (tokens : Kinds) → length tokens < most → Reads Closed Whatever (λ x. enclosed_at (inners x)) tokens (enclosed_at inner tokens)
+  reads_enclosed : (tokens : Kinds) → length tokens < most → Reads Closed Anything (λ x. enclosed_at (inners x)) tokens (enclosed_at inner tokens)
   unfolding enclosed_at
   reads_enclosed tokens few =
-      reads_then (SpellsExpr number 0) inners (λ e item used. (item ≡ e) × (used ≡ Symbol symbol.RIGHT_PAREN ∷ [])) Whatever
+      reads_then (SpellsExpr number 0) inners (λ e item used. (item ≡ e) × (used ≡ Symbol symbol.RIGHT_PAREN ∷ [])) Anything
       (λ x e. expect_symbol symbol.RIGHT_PAREN e.1 >>= λ end. Ok (e.0, end.1)) Closed
       (λ e item used others spelled closes. (used, ap (λ end. used ++ end) closes.1, subst (λ one. SpellsExpr number 0 one used) (sym closes.0) spelled))
       (λ e. expect_symbol symbol.RIGHT_PAREN e.1 >>= λ end. Ok (e.0, end.1))
@@ -256,11 +256,11 @@ module _ {X : Type 0} (number : List ℕ → ℕ) (most : ℕ) (numbers : X → 
       (reads_inner tokens few)
 
   reads_called : (function : Call) (tokens : Kinds) → length tokens < most
-      → Reads (λ e used. SpellsExpr number 7 e (call_token function ∷ used)) Whatever (λ x. called_at (inners x) function) tokens (called_at inner function tokens)
+      → Reads (λ e used. SpellsExpr number 7 e (call_token function ∷ used)) Anything (λ x. called_at (inners x) function) tokens (called_at inner function tokens)
   unfolding called_at
   reads_called function tokens few =
       reads_then (IsSymbol symbol.LEFT_PAREN) (λ (x : X) (later : Kinds). expect_symbol symbol.LEFT_PAREN later)
-      (λ opened e used. SpellsExpr number 7 e (call_token function ∷ Symbol symbol.LEFT_PAREN ∷ used)) Whatever
+      (λ opened e used. SpellsExpr number 7 e (call_token function ∷ Symbol symbol.LEFT_PAREN ∷ used)) Anything
       (λ x opened. enclosed_at (inners x) opened.1 >>= λ e. Ok (expr.Call function e.0, e.1))
       (λ e used. SpellsExpr number 7 e (call_token function ∷ used))
       (λ opened e used others is spelled. subst (λ opens. SpellsExpr number 7 e (call_token function ∷ (opens ++ others))) (sym is) spelled)
@@ -269,13 +269,13 @@ module _ {X : Type 0} (number : List ℕ → ℕ) (most : ℕ) (numbers : X → 
       (λ opened used rest whole is ends.
       reads_made (λ e used. SpellsExpr number 7 e (call_token function ∷ Symbol symbol.LEFT_PAREN ∷ used)) (λ e. expr.Call function e) (λ y e. expr.Call function e)
       (λ e used closed. subst (λ all. SpellsExpr number 7 (expr.Call function e) (call_token function ∷ Symbol symbol.LEFT_PAREN ∷ all)) (sym closed.1) (called function closed.2))
-      (reads_as Closed Whatever (λ (y : X × Unit {0}) (later : Kinds). enclosed_at (inners y.0) later) (λ e used closed. closed) (λ rest ends. ends) (λ y. (y.0, λ later. refl))
+      (reads_as Closed Anything (λ (y : X × Unit {0}) (later : Kinds). enclosed_at (inners y.0) later) (λ e used closed. closed) (λ rest ends. ends) (λ y. (y.0, λ later. refl))
       (reads_enclosed rest (left_below tokens used rest most whole few))))
       (reads_symbol symbol.LEFT_PAREN tokens)
 
   -- what begins with a symbol
   reads_at_symbol : (place : ℕ) (rest : Kinds) (minus opens : Bool) → (place == symbol.MINUS) ≡ minus → (place == symbol.LEFT_PAREN) ≡ opens → length rest < most
-      → Reads (SpellsExpr number 7) Whatever (λ x. primary (inners x) (numbers x)) (Symbol place ∷ rest)
+      → Reads (SpellsExpr number 7) Anything (λ x. primary (inners x) (numbers x)) (Symbol place ∷ rest)
       (if minus then negative_at rest else (if opens then enclosed_at inner rest else Err (Symbol place ∷ rest)))
   unfolding primary
   reads_at_symbol place rest true opens is_minus is_open few =
@@ -303,7 +303,7 @@ module _ {X : Type 0} (number : List ℕ → ℕ) (most : ℕ) (numbers : X → 
       ap (λ at. keyword_by (inners x) at (place == word.FALSE) place later) is_true ∙ ap (λ at. keyword_by (inners x) false at place later) is_false
 
   reads_call : (place : ℕ) → (place == word.TRUE) ≡ false → (place == word.FALSE) ≡ false → (rest : Kinds) (found : Option Call) → call_of_word place ≡ found → length rest < most
-      → Reads (SpellsExpr number 7) Whatever (λ x. primary (inners x) (numbers x)) (Keyword place ∷ rest) (call_by inner found (Keyword place ∷ rest) rest)
+      → Reads (SpellsExpr number 7) Anything (λ x. primary (inners x) (numbers x)) (Keyword place ∷ rest) (call_by inner found (Keyword place ∷ rest) rest)
   reads_call place is_true is_false rest None is few =
       refuses_token nought (Number 0 ∷ []) (Keyword place) rest (nought_alone number)
       (λ x later. not_truth place is_true is_false x later ∙ ap (λ found. call_by (inners x) found (Keyword place ∷ later) later) is)
@@ -315,7 +315,7 @@ module _ {X : Type 0} (number : List ℕ → ℕ) (most : ℕ) (numbers : X → 
 
   -- what begins with a keyword
   reads_at_word : (place : ℕ) (rest : Kinds) (is_true is_false : Bool) → (place == word.TRUE) ≡ is_true → (place == word.FALSE) ≡ is_false → length rest < most
-      → Reads (SpellsExpr number 7) Whatever (λ x. primary (inners x) (numbers x)) (Keyword place ∷ rest) (keyword_by inner is_true is_false place rest)
+      → Reads (SpellsExpr number 7) Anything (λ x. primary (inners x) (numbers x)) (Keyword place ∷ rest) (keyword_by inner is_true is_false place rest)
   unfolding primary
   reads_at_word place rest true other is_true is_false few =
       reads_token (expr.Lit (value.Bool true)) (Keyword place) rest
@@ -332,7 +332,7 @@ module _ {X : Type 0} (number : List ℕ → ℕ) (most : ℕ) (numbers : X → 
   reads_at_word place rest false false is_true is_false few =
       reads_call place is_true is_false rest (call_of_word place) refl few
 
-  primary_reads : (tokens : Kinds) → length tokens < suc most → Reads (SpellsExpr number 7) Whatever (λ x. primary (inners x) (numbers x)) tokens (primary inner number tokens)
+  primary_reads : (tokens : Kinds) → length tokens < suc most → Reads (SpellsExpr number 7) Anything (λ x. primary (inners x) (numbers x)) tokens (primary inner number tokens)
   unfolding primary
   primary_reads [] few = refuses_end nought (Number 0 ∷ []) (nought_alone number) (λ x. refl)
   primary_reads (Number size ∷ rest) few =
@@ -420,7 +420,7 @@ expression_within number depth rank below reads_ranked tokens few =
     reads_as (SpellsExpr number rank) (EndsRank rank) (others_at {most = suc depth} below) (λ e used spelled. spelled) (λ rest ends. ends)
     (λ x. one_deeper depth below x.0 x.1 x.2) (reads_ranked tokens few)
 
--- what is read as an expression, and behind a `not`
+-- what is read as an expression, and after a `not`
 pub reads_expressions : (number : List ℕ → ℕ) (most : ℕ)
     → ReadsRank number 0 most (others_at {most = most} 7) (expression number most 7) × ReadsRank number 2 most (others_at {most = most} 5) (expression number most 5)
 reads_expressions number zero = (λ tokens few. absurd (not-suc-le-zero few), λ tokens few. absurd (not-suc-le-zero few))

@@ -5,7 +5,6 @@ pub mod ExprFacts
 pub mod ExprForms
 pub mod ExprComplete
 pub mod ExprReads
-pub mod ExprReading
 pub mod RunLemmas
 pub mod NamesSingle
 pub mod Renamed

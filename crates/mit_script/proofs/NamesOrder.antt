@@ -26,7 +26,7 @@ place_seen (name ∷ seen) more word among = ⊎_elim
     rw apart (omega (arith, below)))
     (cases_Bool (bytes_eq name word))
 
--- a word that is not among the names before it has its place behind them
+-- a word that is not among the names before it has its place after them
 place_new : (seen more : List (List ℕ)) (word : List ℕ) → is_among seen word ≡ false → place (seen ++ word ∷ more) word ≡ length seen
 place_new [] more word new = rw bytes_eq-same refl
 place_new (name ∷ seen) more word new = ⊎_elim
@@ -69,7 +69,7 @@ fresh-cons_seen seen words word among =
         (λ (apart : bytes_eq word x ≡ false). rw apart refl)
         (cases_Bool (bytes_eq word x))
 
--- behind all words of a list stands one more
+-- after all words of a list stands one more
 is_among-push : (seen : List (List ℕ)) (word other : List ℕ) → is_among (seen ++ word ∷ []) other ≡ (is_among seen other || bytes_eq word other)
 is_among-push seen word other = list_any-append (λ name. bytes_eq name other) seen (word ∷ []) ∙ ap (λ b. is_among seen other || b) (or-false (bytes_eq word other))
 
@@ -104,11 +104,11 @@ next_number next after end number more here up rest =
     let reached = rest.reached in
     record { order = rw (le-leb number next (omega arith), moved) rest.order; reached = omega arith }
 
--- the numbers of words among the names that were seen and those that are added go on in order behind the seen ones
+-- the numbers of words among the names that were seen and those that are added go on in order after the seen ones
 abbrev GoesOn : List (List ℕ) → List (List ℕ) → List (List ℕ) → Type 0
 GoesOn seen words added = Ordered (length seen) (length (seen ++ added)) (map (number_in (seen ++ added)) words)
 
--- behind the names that were seen, each new one has the next number
+-- after the names that were seen, each new one has the next number
 ordered_from : (seen words : List (List ℕ)) → GoesOn seen words (fresh seen words)
 ordered_from seen [] = rw (each_once-nil, append-nil) (record { order = refl; reached = omega arith })
 ordered_from seen (word ∷ words) = ⊎_elim

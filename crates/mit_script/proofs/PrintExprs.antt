@@ -56,7 +56,7 @@ in_parentheses {kinds = kinds} same = record {
 
 -- an operator is put in parentheses where a higher rank is wanted
 enclosed_if : {number : List ℕ → ℕ} {e : Expr} {kinds tokens : Kinds} → (rank want : ℕ) → want ≤ 7
-    → Reprint (SpellsExpr number rank e) kinds tokens → Reprint (SpellsExpr number want e) (printed.enclosed (ltb rank want) kinds) tokens
+    → Reprint (SpellsExpr number rank e) kinds tokens → Reprint (SpellsExpr number want e) (printed.in_parentheses (ltb rank want) kinds) tokens
 enclosed_if {number = number} {e = e} {kinds = kinds} rank want low one =
     elim (cases_Bool (ltb rank want)) [
       | inl above ↦ rw above (alone want low (reprint (enclosed (weaken number rank 0 e kinds (omega arith) one.spelled)) (in_parentheses one.same)))

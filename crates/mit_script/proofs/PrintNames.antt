@@ -24,7 +24,7 @@ pub names_in-signed : (size : ℕ) → names_in (Number size ∷ []) ≡ names_i
 unfolding names_in
 names_in-signed size = refl
 
--- a symbol behind tokens adds no name
+-- a symbol after tokens adds no name
 pub names_in-closed : (tokens : Kinds) (place : ℕ) → names_in (tokens ++ Symbol place ∷ []) ≡ names_in tokens
 unfolding names_in
 names_in-closed tokens place = names_in-append tokens (Symbol place ∷ []) ∙ append-nil (names_in tokens)

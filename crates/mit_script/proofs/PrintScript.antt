@@ -4,6 +4,7 @@ use Rattle.std.specs.List.{AllByRecursion as Each}
 use Rattle.std.specs.Str.{is_utf8}
 use Rattle.std.proofs.lemmas.Bool.Decides.{nat_tests}
 use Rattle.std.proofs.lemmas.List.Elements.{recursion_from_All}
+use Rattle.mit_lex.specs.declared.limits.TheConstants.{MAX_SCRIPT}
 use Rattle.mit_lex.specs.Tokens.{scanned, tokens_of}
 use Rattle.mit_lex.specs.Valid.{IsToken}
 use Rattle.mit_lex.specs.Written.{IsWrittenAs, no_more}
@@ -41,7 +42,7 @@ read_whole : (text : List ℕ) → is_utf8 text ≡ true → (scanned 0 0 text).
 unfolding tokens_of
 read_whole text utf8 whole keeps =
     let size = keeps.size in
-    let small : ltb 1048576 (length text) ≡ false = grind (arith, nat_tests) in
+    let small : ltb MAX_SCRIPT (length text) ≡ false = grind (arith, nat_tests) in
     rw (small, utf8, keeps.runs, whole) refl
 
 pub reads_back : (script : Script) (text : List ℕ) → PrintsBack script text → KeepsLimits text → IsSpelled text script

@@ -4,7 +4,7 @@ use Rattle.std.specs.List.{AllByRecursion as Each}
 use Rattle.std.proofs.lemmas.Grind.{flat_map-append}
 use Rattle.std.proofs.lemmas.List.{append-nil}
 use Rattle.mit_lex.specs.Valid.{IsToken}
-use Rattle.mit_lex.specs.Written.{IsWrittenAs, gap_first, no_more as no_text, token_first, written}
+use Rattle.mit_lex.specs.Written.{IsWrittenAs, gap_first, no_more as no_text, token_first, token_text}
 use Rattle.mit_lex.specs.declared.token.TokenKind.{TokenKind}
 use Rattle.mit_lex.specs.declared.token.TokenKind.TheVariants.{Name, Symbol, Keyword}
 use Rattle.mit_lex.specs.declared.symbol.TheConstants as symbol
@@ -56,7 +56,7 @@ pub record Relined (Spelled : Kinds → Type 0) (lines : List Line) (tokens : Ki
   pub one : Reprint Spelled (lines_tokens lines) tokens
   pub indented : Each IsIndented lines
 
--- the lines behind a first block: a `}`, and then what is spelled
+-- the lines after a first block: a `}`, and then what is spelled
 record Rest (names : List (List ℕ)) (no : List Stmt) (lines : List Line) (tokens : Kinds) : Type 0 where
   kinds : Kinds
   is : lines_tokens lines ≡ Symbol symbol.RIGHT_BRACE ∷ kinds
@@ -64,7 +64,7 @@ record Rest (names : List (List ℕ)) (no : List Stmt) (lines : List Line) (toke
   same : Same kinds tokens
   indented : Each IsIndented lines
 
--- what is known of the names behind a token
+-- what is known of the names after a token
 known_later : (names : List (List ℕ)) (token : TokenKind) (tokens : Kinds) → Each (IsFound names) (names_in (token ∷ tokens)) → Each (IsFound names) (names_in tokens)
 known_later names token tokens each = each_back (IsFound names) (name_in token) (names_in tokens) (rw names_in-cons at each)
 
@@ -123,7 +123,7 @@ if_relined names op args on_true on_false tokens inside others over known indent
       indented = (blank, each_append IsIndented inner (other ++ end_line indent) block.indented rest.indented);
     })
 
--- ---- what stands behind the first block
+-- ---- what stands after the first block
 
 empty_body : {names : List (List ℕ)} {tokens : Kinds} → SpellsBody names [] tokens → tokens ≡ []
 empty_body no_more = refl
@@ -224,11 +224,11 @@ mutual
 line_assoc : (indent tokens last rest : List ℕ) → (((indent ++ tokens) ++ last) ++ 10 ∷ []) ++ rest ≡ indent ++ (tokens ++ (last ++ 10 ∷ rest))
 line_assoc indent tokens last rest = simp append_assoc
 
--- tokens with a blank behind each, before a text
+-- tokens with a blank after each, before a text
 spaced_written : (kinds : Kinds) {text : List ℕ} {others : Kinds} → Each IsToken kinds → IsWrittenAs text others → IsWrittenAs (spaced kinds ++ text) (kinds ++ others)
 spaced_written [] valid later = later
 spaced_written (kind ∷ kinds) {text = text} valid later =
-    rw (append_assoc (written kind ++ 32 ∷ []) (spaced kinds) text, append_assoc (written kind) (32 ∷ []) (spaced kinds ++ text))
+    rw (append_assoc (token_text kind ++ 32 ∷ []) (spaced kinds) text, append_assoc (token_text kind) (32 ∷ []) (spaced kinds ++ text))
     (token_first kind 32 valid.0 (inl refl) (spaced_written kinds valid.1 later))
 
 -- gaps before a text
@@ -243,5 +243,5 @@ lines_written (line_of indent tokens last ∷ lines) indented valid =
     let front = each_front IsToken (tokens ++ last ∷ []) (lines_tokens lines) valid in
     let later = lines_written lines indented.1 (each_back IsToken (tokens ++ last ∷ []) (lines_tokens lines) valid) in
     let end = token_first last 10 (each_back IsToken tokens (last ∷ []) front).0 (inr refl) later in
-    rw (append_assoc tokens (last ∷ []) (lines_tokens lines), line_assoc indent (spaced tokens) (written last) (lines_text lines))
+    rw (append_assoc tokens (last ∷ []) (lines_tokens lines), line_assoc indent (spaced tokens) (token_text last) (lines_text lines))
     (gaps_written indented.0 (spaced_written tokens (each_front IsToken tokens (last ∷ []) front) end))

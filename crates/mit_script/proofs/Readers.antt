@@ -1,9 +1,9 @@
--- What a reader reads is spelled, and reading depends on no token behind the first one that it leaves.
+-- What a reader reads is spelled, and reading depends on no token after the first one that it leaves.
 use Rattle.std.proofs.Common.{◌≡◌, ℕ, ◌+◌, ◌<◌, ◌≤◌, [], ◌∷◌, ◌++◌, length, Bool, true, false, ◌==◌, if◌then◌else◌, Option, Some, None, Result, Ok, Err, refl, sym, ap, ◌∙◌, subst, append_assoc, length-append, arith, eqb-true}
 use Rattle.mit_lex.specs.declared.token.TokenKind.{TokenKind}
 use Rattle.mit_lex.specs.declared.token.TokenKind.TheVariants.{Symbol, Keyword}
 use Rattle.mit_script.specs.Grammar.{Kinds}
-use Rattle.mit_script.specs.Reading.{Reading, ◌>>=◌, expect_symbol, sees_word, behind}
+use Rattle.mit_script.specs.Reading.{Reading, ◌>>=◌, expect_symbol, sees_word, after_next}
 
 -- the token that comes first
 abbrev pub first_of : Kinds → Option TokenKind
@@ -29,11 +29,11 @@ some_or_none a is = cc
 -- ---- what is read
 
 -- anything may follow
-abbrev pub Whatever : Kinds → Type 0
-Whatever rest = Unit {0}
+abbrev pub Anything : Kinds → Type 0
+Anything rest = Unit {0}
 
 -- What reading these tokens gives: an item that is spelled, and what may follow it; or the refused token, before which the tokens can be
--- completed. The other readers take as many tokens, or refuse the same one, whatever stands behind the first one that is left.
+-- completed. The other readers take as many tokens, or refuse the same one, whatever stands after the first one that is left.
 pub data Reads {A X : Type 0} (Spelled : A → Kinds → Type 0) (Ends : Kinds → Type 0) (others : X → Kinds → Reading A) : Kinds → Reading A → Type 0 where
   takes : (item : A) (used rest : Kinds) → Spelled item used → Ends rest
       → ((x : X) (later : Kinds) → first_of later ≡ first_of rest → (other : A) × (others x (used ++ later) ≡ Ok (other, later)))
@@ -82,7 +82,7 @@ reads_where others' given (stops item front rest more spelled local) =
     stops item front rest more spelled
     (λ y later same. (given y).1 (front ++ later) (first_of-append front later rest same) ∙ local (given y).0 later same)
 
--- a token, and then what is read behind it
+-- a token, and then what is read after it
 pub reads_behind : {A X : Type 0} {Spelled : A → Kinds → Type 0} {Ends : Kinds → Type 0} {others : X → Kinds → Reading A} {tokens : Kinds} {result : Reading A}
     → (token : TokenKind) (Spelled' : A → Kinds → Type 0) (others' : X → Kinds → Reading A)
     → ((item : A) (used : Kinds) → Spelled item used → Spelled' item (token ∷ used))
@@ -94,7 +94,7 @@ reads_behind token Spelled' others' spells given (takes item used rest spelled e
 reads_behind token Spelled' others' spells given (stops item front rest more spelled local) =
     stops item (token ∷ front) rest more (spells item (front ++ more) spelled) (λ x later same. given x (front ++ later) ∙ local x later same)
 
--- one reader behind another: what the second one does behind what the first one took
+-- one reader after another: what the second one does after what the first one took
 module _ {A B X : Type 0} (First : A → Kinds → Type 0) (firsts : X → Kinds → Reading A) (Second : A → B → Kinds → Type 0) (Ends : Kinds → Type 0)
     (nexts : X → A × Kinds → Reading B) (Both : B → Kinds → Type 0)
     (joined : (item : A) (last : B) (used more : Kinds) → First item used → Second item last more → Both last (used ++ more)) where
@@ -120,16 +120,16 @@ module _ {A B X : Type 0} (First : A → Kinds → Type 0) (firsts : X → Kinds
       → Reads (Second item) Ends (λ (y : X × A) (later : Kinds). nexts y.0 (y.1, later)) rest (next (item, rest)))
       → Reads First Between firsts tokens result
       → Reads Both Ends (λ (x : X) (later : Kinds). firsts x later >>= nexts x) tokens (result >>= next)
-  reads_then next completed behind (takes item used rest spelled ends local) =
-      reads_on item used spelled local (behind item used rest refl spelled ends)
-  reads_then next completed behind (stops item front rest more spelled local) =
+  reads_then next completed then_reads (takes item used rest spelled ends local) =
+      reads_on item used spelled local (then_reads item used rest refl spelled ends)
+  reads_then next completed then_reads (stops item front rest more spelled local) =
       let end = completed item in
       stops end.0 front rest (more ++ end.1) (subst (Both end.0) (append_assoc front more end.1) (joined item end.0 (front ++ more) end.1 spelled end.2))
       (λ x later same. ap (λ read. read >>= nexts x) (local x later same))
 
 -- ---- one token
 
--- what comes first is a token, and the rest comes behind it
+-- what comes first is a token, and the rest comes after it
 token_first : (token : TokenKind) (later : Kinds) → first_of later ≡ Some token → (more : Kinds) × (later ≡ token ∷ more)
 token_first token [] is = absurd (some_or_none token (sym is))
 token_first token (first ∷ more) is = (more, cc)
@@ -153,21 +153,21 @@ refuses_token {others = others} item more token rest spelled local =
 -- a single token is the item
 pub reads_token : {A X : Type 0} {Spelled : A → Kinds → Type 0} {others : X → Kinds → Reading A} (item : A) (token : TokenKind) (rest : Kinds)
     → Spelled item (token ∷ []) → ((x : X) (later : Kinds) → (other : A) × (others x (token ∷ later) ≡ Ok (other, later)))
-    → Reads Spelled Whatever others (token ∷ rest) (Ok (item, rest))
+    → Reads Spelled Anything others (token ∷ rest) (Ok (item, rest))
 reads_token item token rest spelled local = takes item (token ∷ []) rest spelled tt (λ x later same. local x later)
 
 -- a single token is the item where a test of it holds, and otherwise it is refused
 pub reads_if : {A X : Type 0} {Spelled : A → Kinds → Type 0} {others : X → Kinds → Reading A} (test : Bool) (item wrong : A) (items : X → A) (more : Kinds) (token : TokenKind) (rest : Kinds)
     → (test ≡ true → Spelled item (token ∷ [])) → Spelled wrong more
     → ((x : X) (later : Kinds) → others x (token ∷ later) ≡ (if test then Ok (items x, later) else Err (token ∷ later)))
-    → Reads Spelled Whatever others (token ∷ rest) (if test then Ok (item, rest) else Err (token ∷ rest))
+    → Reads Spelled Anything others (token ∷ rest) (if test then Ok (item, rest) else Err (token ∷ rest))
 reads_if true item wrong items more token rest spelled possible local = reads_token item token rest (spelled refl) (λ x later. (items x, local x later))
 reads_if false item wrong items more token rest spelled possible local = refuses_token wrong more token rest possible local
 
 abbrev pub IsSymbol : ℕ → Unit {0} → Kinds → Type 0
 IsSymbol wanted read tokens = tokens ≡ Symbol wanted ∷ []
 
-pub reads_symbol : {X : Type 0} (wanted : ℕ) (tokens : Kinds) → Reads (IsSymbol wanted) Whatever (λ (x : X) (later : Kinds). expect_symbol wanted later) tokens (expect_symbol wanted tokens)
+pub reads_symbol : {X : Type 0} (wanted : ℕ) (tokens : Kinds) → Reads (IsSymbol wanted) Anything (λ (x : X) (later : Kinds). expect_symbol wanted later) tokens (expect_symbol wanted tokens)
 unfolding expect_symbol
 reads_symbol wanted [] = refuses_end tt (Symbol wanted ∷ []) refl (λ x. refl)
 reads_symbol wanted (Symbol place ∷ rest) =
@@ -197,7 +197,7 @@ sees_word-first wanted (_ ∷ rest) = refl
 pub word_local : (wanted : ℕ) (later rest : Kinds) → first_of later ≡ first_of rest → sees_word wanted later ≡ sees_word wanted rest
 word_local wanted later rest same = sees_word-first wanted later ∙ ap (first_is_word wanted) same ∙ sym (sees_word-first wanted rest)
 
-pub word_seen : (wanted : ℕ) (tokens : Kinds) → sees_word wanted tokens ≡ true → tokens ≡ Keyword wanted ∷ behind tokens
+pub word_seen : (wanted : ℕ) (tokens : Kinds) → sees_word wanted tokens ≡ true → tokens ≡ Keyword wanted ∷ after_next tokens
 unfolding sees_word
 word_seen wanted [] is = cc
 word_seen wanted (Keyword place ∷ rest) is = ap (λ at. Keyword at ∷ rest) (eqb-true place wanted is)
@@ -221,9 +221,17 @@ reads_made Spelled' made makes spells (stops item front rest more spelled local)
 pub reads_ok : {A X : Type 0} {Spelled : A → Kinds → Type 0} {Ends : Kinds → Type 0} {others : X → Kinds → Reading A} {tokens : Kinds} {result : Reading A}
     → (item : A) (rest : Kinds) → Reads Spelled Ends others tokens result → result ≡ Ok (item, rest)
     → (used : Kinds) × (tokens ≡ used ++ rest) × Spelled item used × Ends rest
+    × ((x : X) (later : Kinds) → first_of later ≡ first_of rest → (other : A) × (others x (used ++ later) ≡ Ok (other, later)))
 reads_ok {Spelled = Spelled} {Ends = Ends} item rest (takes read used left spelled ends local) is =
     let same = ok_once (read, left) (item, rest) is in
-    (used, ap (λ p. used ++ p.1) same, subst (λ p. Spelled p.0 used) same spelled, subst (λ p. Ends p.1) same ends)
+    let end : left ≡ rest = ap (λ p. p.1) same in (
+      used,
+      ap (λ p. used ++ p) end,
+      subst (λ p. Spelled p.0 used) same spelled,
+      subst Ends end ends,
+      λ x later first.
+          let at = local x later (first ∙ ap first_of (sym end)) in (at.0, at.1),
+    )
 reads_ok item rest (stops read front left more spelled local) is = absurd (ok_or_err (item, rest) left (sym is))
 
 pub reads_err : {A X : Type 0} {Spelled : A → Kinds → Type 0} {Ends : Kinds → Type 0} {others : X → Kinds → Reading A} {tokens : Kinds} {result : Reading A}
@@ -234,6 +242,21 @@ reads_err rest (takes read used left spelled ends local) is = absurd (ok_or_err 
 reads_err rest (stops item front left more spelled local) is =
     let same = err_once left rest is in
     (front, item, more, ap (λ p. front ++ p) same, spelled, λ x later first. local x later (first ∙ ap first_of (sym same)))
+
+-- and the other way round, where the tokens are cut so
+pub takes_these : {A X : Type 0} {Spelled : A → Kinds → Type 0} {Ends : Kinds → Type 0} {others : X → Kinds → Reading A} (item : A) (used rest tokens : Kinds)
+    → tokens ≡ used ++ rest → Spelled item used → Ends rest
+    → ((x : X) (later : Kinds) → first_of later ≡ first_of rest → (other : A) × (others x (used ++ later) ≡ Ok (other, later)))
+    → Reads Spelled Ends others tokens (Ok (item, rest))
+takes_these {Spelled = Spelled} {Ends = Ends} {others = others} item used rest tokens cut spelled ends local =
+    subst (λ all. Reads Spelled Ends others all (Ok (item, rest))) (sym cut) (takes item used rest spelled ends local)
+
+pub stops_there : {A X : Type 0} {Spelled : A → Kinds → Type 0} {Ends : Kinds → Type 0} {others : X → Kinds → Reading A} (item : A) (front rest more tokens : Kinds)
+    → tokens ≡ front ++ rest → Spelled item (front ++ more)
+    → ((x : X) (later : Kinds) → first_of later ≡ first_of rest → others x (front ++ later) ≡ Err later)
+    → Reads Spelled Ends others tokens (Err rest)
+stops_there {Spelled = Spelled} {Ends = Ends} {others = others} item front rest more tokens cut spelled local =
+    subst (λ all. Reads Spelled Ends others all (Err rest)) (sym cut) (stops item front rest more spelled local)
 
 -- ---- bounds
 

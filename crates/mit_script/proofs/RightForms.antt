@@ -11,27 +11,27 @@ use Rattle.mit_lex.specs.declared.token.TokenKind.TheVariants.{Name, Column, Tex
 use Rattle.mit_lex.specs.declared.symbol.TheConstants as symbol
 use Rattle.mit_lex.specs.declared.keyword.TheConstants as word
 use Rattle.mit_script.specs.Grammar.{Kinds, agg_tokens, SpellsWrite, write_form, SpellsCondition, condition_form}
-use Rattle.mit_script.specs.Reading.{Reading, ◌>>=◌, expect_word, sees_word, behind, column_at, of_column, agg_at, read_at, map_at, filter_at, words_at, range_at, flat_by, flat_at, join_at, reduce_at, union_at, of_bag_at, sum_at, row_at, empty_at, copy_or_scalar, scalar_at, write_at, condition_at}
+use Rattle.mit_script.specs.Reading.{Reading, ◌>>=◌, expect_word, sees_word, after_next, column_at, of_column, agg_at, read_at, map_at, filter_at, words_at, range_at, flat_by, flat_at, join_at, reduce_at, union_at, of_bag_at, sum_at, row_at, empty_at, copy_or_scalar, scalar_at, write_at, condition_at}
 use Rattle.mit_script.proofs.Readers.{first_of}
 use Rattle.mit_script.proofs.StmtReaders.{Spelling, Reader, IsReader, One, one, Bind, both, Made, made, make, along, convert, Pure, pure, reads_pure, Or, this, other}
 use Rattle.mit_script.proofs.StmtTokens.{Whatever, SymbolOf, WordOf, reads_one_name, reads_one_column, reads_one_text, AfterWord, AfterSymbol, after_word, after_symbol, choose_word, EndsList}
 use Rattle.mit_script.proofs.RightReaders.{Numbers, EndsExpr, begins_one, begins_both, begins_made, follow, then_any, ends_so, AnExpr, reads_expr, Exprs, reads_exprs, Types, reads_types, Columns, reads_columns}
 
--- a keyword and what is behind it, or the token is refused
+-- a keyword and what is after it, or the token is refused
 word_or_none : {A : Type 0} (wanted : ℕ) (tokens : Kinds) (next : Kinds → Reading A)
-    → Path (Reading A) (expect_word wanted tokens >>= λ end. next end.1) (if sees_word wanted tokens then next (behind tokens) else Err tokens)
+    → Path (Reading A) (expect_word wanted tokens >>= λ end. next end.1) (if sees_word wanted tokens then next (after_next tokens) else Err tokens)
 unfolding expect_word sees_word
 word_or_none wanted [] next = refl
 word_or_none wanted (Keyword place ∷ rest) next = elim (eqb_tells place wanted) [ inl e ↦ rw e.0 refl | inr e ↦ rw e.0 refl ]
 word_or_none wanted (_ ∷ rest) next = refl
 
--- what is read behind the last keyword that may stand there
+-- what is read after the last keyword that may stand there
 last_word : {P A : Type 0} {top slack : ℕ} (wanted : ℕ) {R : Spelling P A} {F : Option TokenKind → Type 0} {r : Reader P A} → IsReader top slack R F r
-    → IsReader top slack (AfterWord wanted R) F (λ p left most tokens. if sees_word wanted tokens then r p left most (behind tokens) else Err tokens)
+    → IsReader top slack (AfterWord wanted R) F (λ p left most tokens. if sees_word wanted tokens then r p left most (after_next tokens) else Err tokens)
 last_word {slack = slack} wanted {r = r} reads =
     convert (after_word slack wanted (omega arith) reads) (λ p a tokens x. x) (λ p a tokens x. x) (λ next e. e) (λ p left most tokens. word_or_none wanted tokens (r p left most))
 
--- behind one keyword, another one is not seen
+-- after one keyword, another one is not seen
 pub word_unseen : {P A : Type 0} (seen wanted : ℕ) (R : Spelling P A) → (seen == wanted) ≡ false → (p : P) (a : A) (tokens after : Kinds) → AfterWord seen R p a tokens
     → sees_word wanted (tokens ++ after) ≡ false
 unfolding sees_word
@@ -65,10 +65,10 @@ AggForm = Or (AfterWord word.COUNT (Pure (λ p. agg.Count))) SumMinMaxed
 -- the reader, by the keyword that is seen
 agg_by_words : Kinds → Reading Agg
 agg_by_words tokens =
-    if sees_word word.COUNT tokens then Ok (agg.Count, behind tokens)
-    else (if sees_word word.SUM tokens then of_column agg.Sum (column_at (behind tokens))
-    else (if sees_word word.MIN tokens then of_column agg.Min (column_at (behind tokens))
-    else (if sees_word word.MAX tokens then of_column agg.Max (column_at (behind tokens)) else Err tokens)))
+    if sees_word word.COUNT tokens then Ok (agg.Count, after_next tokens)
+    else (if sees_word word.SUM tokens then of_column agg.Sum (column_at (after_next tokens))
+    else (if sees_word word.MIN tokens then of_column agg.Min (column_at (after_next tokens))
+    else (if sees_word word.MAX tokens then of_column agg.Max (column_at (after_next tokens)) else Err tokens)))
 
 agg_same : (tokens : Kinds) → agg_by_words tokens ≡ agg_at tokens
 unfolding agg_by_words agg_at sees_word
@@ -106,7 +106,7 @@ reads_agg {slack = slack} = convert
     (or_unseen word.COUNT (AfterWord word.MIN (AColumn agg.Min)) Maxed (word_unseen word.MIN word.COUNT (AColumn agg.Min) refl) (word_unseen word.MAX word.COUNT (AColumn agg.Max) refl)) p a tokens after x))
     agg_form (λ p by tokens is. subst (λ t. AggForm p by t) (sym is) (agg_formed p by)) (λ next e. e) (λ p left most tokens. agg_same tokens)
 
--- ---- the forms, from the token behind the keyword on
+-- ---- the forms, from the token after the keyword on
 
 abbrev pub ReadForm : Spelling Numbers OpSpec
 ReadForm = Bind AnExpr (Made Types (λ q types. kind.Read q.1 types))

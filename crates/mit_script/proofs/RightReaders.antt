@@ -1,17 +1,17 @@
 -- The readers of operators: the forms of the right side, of `write` and of a condition.
-use Rattle.std.proofs.Common.{◌≡◌, ℕ, List, ◌++◌, Option, Some, None, Ok, Err, refl, ap, sym, subst, ◌∙◌, arith, append_assoc}
+use Rattle.std.proofs.Common.{◌≡◌, ℕ, List, ◌++◌, Option, Some, None, refl, sym, subst, ◌∙◌, arith, append_assoc}
 use Rattle.mit_rows.specs.declared.value.ColType.{ColType}
 use Rattle.mit_expr.specs.declared.expr.Expr.{Expr}
 use Rattle.mit_lex.specs.declared.token.TokenKind.{TokenKind}
 use Rattle.mit_lex.specs.declared.token.TokenKind.TheVariants.{Symbol}
 use Rattle.mit_lex.specs.declared.symbol.TheConstants as symbol
 use Rattle.mit_script.specs.Grammar.{Kinds, Listed, SpellsType, SpellsColumn, SpellsExpr, stronger, positive}
-use Rattle.mit_script.specs.Reading.{column_at, type_at, operator_at, any_expression, exprs_at, types_at, columns_at}
-use Rattle.mit_script.proofs.Readers.{first_of}
-use Rattle.mit_script.proofs.ExprFacts.{first_operator, operator_at-first}
-use Rattle.mit_script.proofs.ExprReading.{expression_complete, expression_sound, expression_stuck}
-use Rattle.mit_script.proofs.Renamed.{expr_renamed}
-use Rattle.mit_script.proofs.StmtReaders.{Spelling, Reader, IsReader, Read, Stuck, Fits, fits_front, One, one, Bind, both, bound, bind, Made, made, make, convert}
+use Rattle.mit_script.specs.Reading.{column_at, type_at, any_expression, exprs_at, types_at, columns_at}
+use Rattle.mit_script.proofs.Readers.{Anything, first_of, reads_as}
+use Rattle.mit_script.proofs.ExprFacts.{ends_none, first_operator, operator_at-first}
+use Rattle.mit_script.proofs.ExprComplete.{expressions_complete}
+use Rattle.mit_script.proofs.ExprReads.{reads_expression}
+use Rattle.mit_script.proofs.StmtReaders.{Spelling, Reader, IsReader, Others, One, one, Bind, both, bound, bind, Made, made, make, convert}
 use Rattle.mit_script.proofs.StmtTokens.{Whatever, SymbolOf, reads_one_symbol, reads_the_column, reads_the_type, AfterSymbol, after_symbol, EndsList, reads_list}
 
 -- the numbers of names
@@ -43,7 +43,7 @@ begins_both R S F may p c tokens after (both {a = a} {front = front} {back = bac
 pub begins_made : {P A C : Type 0} (R : Spelling P A) (f : P → A → C) (F : Option TokenKind → Type 0) → Begins R F → Begins (Made R f) F
 begins_made R f F may p c tokens after (made {a = a} x) = may p a tokens after x
 
--- one piece behind another, which begins with a token that may follow the first
+-- one piece after another, which begins with a token that may follow the first
 pub follow : {P A C : Type 0} {top slack : ℕ} {R : Spelling P A} {F G : Option TokenKind → Type 0} {r : Reader P A} {S : Spelling (P × A) C} {s : Reader (P × A) C}
     → IsReader top slack R F r → IsReader top slack S G s → Begins S F → IsReader top slack (Bind R S) G (bound r s)
 follow first second may = bind first second (λ p a c tokens after x e. may (p, a) c tokens after x)
@@ -63,29 +63,6 @@ ends_so reads so = convert reads (λ p a tokens x. x) (λ p a tokens x. x) so (�
 abbrev pub AnExpr : Spelling Numbers Expr
 AnExpr number = SpellsExpr number 0
 
--- what is read as an expression is spelled, and read again with other numbers
-expr_sound : (top slack : ℕ) (number : Numbers) (left most : ℕ) (e : Expr) (tokens rest : Kinds) → Fits top slack left most tokens → any_expression number most tokens ≡ Ok (e, rest)
-    → Read top AnExpr (λ number left most. any_expression number most) number left most e tokens rest
-expr_sound top slack number left most e tokens rest fits is =
-    let x = expression_sound number most tokens rest e fits.wide is in
-    let few : Fits top slack left most x.0 = fits_front top slack left most x.0 rest (rw x.1 at fits) in
-    record {
-      used = x.0;
-      cut = x.1;
-      spelled = x.2;
-      again = λ q depth bound later larger same.
-          let y = expr_renamed number q 0 e x.0 x.2 in
-          let ends : operator_at later ≡ None = operator_at-first later ∙ ap first_operator same ∙ sym (operator_at-first rest) ∙ x.3 in
-          (y.0, expression_complete q bound y.0 x.0 later y.1 ends (omega (arith, few.wide, larger.wide)));
-    }
-
--- where no expression is read, some expression begins so
-expr_stuck : (top slack : ℕ) (number : Numbers) (left most : ℕ) (tokens rest : Kinds) → Fits top slack left most tokens → any_expression number most tokens ≡ Err rest
-    → Stuck top AnExpr (λ number left most. any_expression number most) number left most tokens rest
-expr_stuck top slack number left most tokens rest fits is =
-    let x = expression_stuck number most tokens rest fits.wide is in
-    record { front = x.0; more = x.2; value = x.1; cut = x.3; spelled = x.4; again = λ q depth bound later larger same. x.5 q bound later larger.wide same }
-
 -- the number 0
 an_expr : (number : Numbers) → (e : Expr) × (tokens : Kinds) × AnExpr number e tokens
 an_expr number = (_, _, stronger (stronger (stronger (stronger (stronger (stronger (stronger (positive 0 (omega arith)))))))))
@@ -94,9 +71,10 @@ an_expr number = (_, _, stronger (stronger (stronger (stronger (stronger (strong
 pub reads_expr : {top slack : ℕ} → IsReader top slack AnExpr EndsExpr (λ number left most. any_expression number most)
 reads_expr {top = top} {slack = slack} = record {
   some = an_expr;
-  complete = λ number left most e tokens after fits x ends. expression_complete number most e tokens after x (operator_at-first after ∙ ends) fits.wide;
-  sound = expr_sound top slack;
-  stuck = expr_stuck top slack;
+  complete = λ number left most e tokens after fits x ends. (expressions_complete number most).0 e tokens after x (ends_none 0 after (operator_at-first after ∙ ends)) fits.wide;
+  reads = λ number left most tokens fits.
+      reads_as (AnExpr number) Anything (λ (x : Others Numbers top left most). any_expression x.0 x.2) (λ e used x. x) (λ rest ends. tt) (λ x. ((x.0, x.2, x.3.wide), λ later. refl))
+      (reads_expression number most tokens fits.wide);
 }
 
 -- ---- lists in brackets and parentheses

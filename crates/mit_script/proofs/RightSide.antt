@@ -11,7 +11,7 @@ use Rattle.mit_lex.specs.declared.token.TokenKind.TheVariants.{Name, Symbol, Key
 use Rattle.mit_lex.specs.declared.symbol.TheConstants as symbol
 use Rattle.mit_lex.specs.declared.keyword.TheConstants as word
 use Rattle.mit_script.specs.Grammar.{Kinds, SpellsExpr, stronger, binary, negated, positive, negative, text_literal, truth_literal, column_place, captured_name, called, enclosed, operator_token, truth_token, call_token, is_name, SpellsRight, read_form, map_form, filter_form, words_form, range_form, join_form, reduce_form, union_form, distinct_form, only_form, count_form, sum_form, row_form, empty_form, copy_form, scalar_form, SpellsWrite, write_form, SpellsCondition, condition_form}
-use Rattle.mit_script.specs.Reading.{sees_word, behind, bags_ahead, read_at, map_at, filter_at, flat_at, join_at, reduce_at, union_at, of_bag_at, sum_at, row_at, empty_at, copy_or_scalar, scalar_at, right_at}
+use Rattle.mit_script.specs.Reading.{sees_word, after_next, bags_ahead, read_at, map_at, filter_at, flat_at, join_at, reduce_at, union_at, of_bag_at, sum_at, row_at, empty_at, copy_or_scalar, scalar_at, right_at}
 use Rattle.mit_script.proofs.Renamed.{expr_renamed}
 use Rattle.mit_script.proofs.StmtReaders.{Spelling, Reader, IsReader, one, both, made, convert, Or, this, other}
 use Rattle.mit_script.proofs.StmtTokens.{AfterWord, choose_word}
@@ -35,7 +35,7 @@ turn_of _ = 13
 abbrev Late : ℕ → Spelling Numbers OpSpec → Type 0
 Late place S = (number : Numbers) (op : OpSpec) (tokens after : Kinds) → S number op tokens → place ≤ turn_of (tokens ++ after)
 
--- words behind a keyword, or others that come later
+-- words after a keyword, or others that come later
 late_or : (place seen : ℕ) (R S : Spelling Numbers OpSpec) → place_of seen ≡ place → Late (suc place) S → Late place (Or (AfterWord seen R) S)
 unfolding turn_of
 late_or place seen R S is late number op tokens after (this (both one x)) = rw is (omega arith)
@@ -64,9 +64,9 @@ record Turn (place : ℕ) (S : Spelling Numbers OpSpec) (s : Reader Numbers OpSp
   reads : (top slack : ℕ) → IsReader top slack S EndsRight s
   late : Late place S
 
--- what is behind a keyword, or words that begin later
+-- what is after a keyword, or words that begin later
 turn : (place wanted : ℕ) {R S : Spelling Numbers OpSpec} {r s : Reader Numbers OpSpec} → place_of wanted ≡ place → ((top slack : ℕ) → IsReader top slack R EndsRight r) → Turn (suc place) S s
-    → Turn place (Or (AfterWord wanted R) S) (λ p left most tokens. if sees_word wanted tokens then r p left most (behind tokens) else s p left most tokens)
+    → Turn place (Or (AfterWord wanted R) S) (λ p left most tokens. if sees_word wanted tokens then r p left most (after_next tokens) else s p left most tokens)
 turn place wanted {R = R} {S = S} is first second = record {
   reads = λ top slack. choose_word slack wanted (omega arith) (first top slack) (second.reads top slack)
       (λ number op tokens after x e. late_unseen place wanted (tokens ++ after) is (second.late number op tokens after x));
@@ -122,13 +122,13 @@ RightForms =
 -- the reader of all forms, by the keyword that is seen
 right_by_words : Reader Numbers OpSpec
 right_by_words number left most tokens =
-    if sees_word word.READ tokens then read_at number most (behind tokens) else (if sees_word word.MAP tokens then map_at number most (behind tokens)
-    else (if sees_word word.FILTER tokens then filter_at number most (behind tokens) else (if sees_word word.FLAT tokens then flat_at number most (behind tokens)
-    else (if sees_word word.JOIN tokens then join_at most (behind tokens) else (if sees_word word.REDUCE tokens then reduce_at most (behind tokens)
-    else (if sees_word word.UNION tokens then union_at (behind tokens) else (if sees_word word.DISTINCT tokens then of_bag_at kind.Distinct (behind tokens)
-    else (if sees_word word.ONLY tokens then of_bag_at kind.Only (behind tokens) else (if sees_word word.COUNT tokens then of_bag_at kind.Count (behind tokens)
-    else (if sees_word word.SUM tokens then sum_at (behind tokens) else (if sees_word word.ROW tokens then row_at number most (behind tokens)
-    else (if sees_word word.EMPTY tokens then empty_at most (behind tokens) else scalar_at number most tokens))))))))))))
+    if sees_word word.READ tokens then read_at number most (after_next tokens) else (if sees_word word.MAP tokens then map_at number most (after_next tokens)
+    else (if sees_word word.FILTER tokens then filter_at number most (after_next tokens) else (if sees_word word.FLAT tokens then flat_at number most (after_next tokens)
+    else (if sees_word word.JOIN tokens then join_at most (after_next tokens) else (if sees_word word.REDUCE tokens then reduce_at most (after_next tokens)
+    else (if sees_word word.UNION tokens then union_at (after_next tokens) else (if sees_word word.DISTINCT tokens then of_bag_at kind.Distinct (after_next tokens)
+    else (if sees_word word.ONLY tokens then of_bag_at kind.Only (after_next tokens) else (if sees_word word.COUNT tokens then of_bag_at kind.Count (after_next tokens)
+    else (if sees_word word.SUM tokens then sum_at (after_next tokens) else (if sees_word word.ROW tokens then row_at number most (after_next tokens)
+    else (if sees_word word.EMPTY tokens then empty_at most (after_next tokens) else scalar_at number most tokens))))))))))))
 
 -- it is the reader of the right side
 right_same : (number : Numbers) (left most : ℕ) (tokens : Kinds) → right_by_words number left most tokens ≡ right_at number most tokens

@@ -28,7 +28,7 @@ is_run tokens = list_all (λ token. not (ends_run token)) tokens
 record Run (tokens : Kinds) : Type 0 where
   holds : is_run tokens ≡ true
 
--- two runs one behind the other are a run
+-- two runs one after the other are a run
 Run-append : {tokens others : Kinds} → Run tokens → Run others → Run (tokens ++ others)
 Run-append run run' = record { holds = rw (list_all-append, run.holds) run'.holds }
 
@@ -150,7 +150,7 @@ write_run number op tokens spelled = (write_in_run spelled).holds
 pub condition_run : (number : List ℕ → ℕ) (op : OpSpec) (tokens : Kinds) → SpellsCondition number op tokens → is_run tokens ≡ true
 condition_run number op tokens spelled = (condition_in_run spelled).holds
 
--- the run ahead is that of the operator, where the token behind it ends the run
+-- the run ahead is that of the operator, where the token after it ends the run
 pub run_of-append : (tokens : Kinds) (last : TokenKind) (rest : Kinds) → is_run tokens ≡ true → ends_run last ≡ true → run_of (tokens ++ last ∷ rest) ≡ tokens
 run_of-append [] last rest run ends = rw (take_while-cons, ends) refl
 run_of-append (token ∷ tokens) last rest run ends =

@@ -5,9 +5,9 @@ use Rattle.mit_script.specs.Grammar.{Kinds, IsRefused, Spells, SpellsBody, Stops
 use Rattle.mit_script.specs.Reading.{Reading, ended, read_script, statements, with_names}
 use Rattle.mit_script.specs.declared.tree.Script.{Script}
 use Rattle.mit_script.specs.declared.tree.Stmt.{Stmt}
-use Rattle.mit_script.proofs.Readers.{first_of, ok_once, ok_or_err, some_or_none}
+use Rattle.mit_script.proofs.Readers.{first_of, ok_once, ok_or_err, reads_err, reads_ok, some_or_none}
 use Rattle.mit_script.proofs.Renamed.{body_renamed}
-use Rattle.mit_script.proofs.StmtReaders.{Fits, Larger, Read, Stuck}
+use Rattle.mit_script.proofs.StmtReaders.{Fits, Larger}
 use Rattle.mit_script.proofs.StmtForms.{Names}
 use Rattle.mit_script.proofs.StmtBodies.{reads_body}
 
@@ -58,27 +58,31 @@ never_refused most front (token ∷ rest) never = λ goes_on.
     (ap (statements script.names bound bound) (sym (append_assoc front (token ∷ []) goes_on.1)) ∙ body_read script.names script.body all bound goes_on.2.body (omega arith))
 
 -- statements were read, and tokens are left
-stops_behind : (names : Names) (most : ℕ) (body : List Stmt) (tokens : Kinds) (token : TokenKind) (rest : Kinds)
-    → Read 0 SpellsBody (λ names left most. statements names most most) names 0 most body tokens (token ∷ rest) → StopsBefore tokens (token ∷ rest)
-stops_behind names most body tokens token rest x = record {
-  front = x.used;
-  cut = x.cut;
-  goes_on = let y = some_script names body x.used x.spelled in (y.0, [], subst (Spells y.0) (sym (append-nil x.used)) y.1);
-  refused = never_refused most x.used (token ∷ rest) (λ others bound later other more same is.
-      let y = x.again others 0 bound later (larger most bound more) same in
-      let end : later ≡ [] = ap (λ t. t.1) (ok_once _ _ (sym y.1 ∙ is)) in
-      some_or_none token (sym same ∙ ap first_of end));
-}
+stops_behind : (names : Names) (most : ℕ) (body : List Stmt) (tokens : Kinds) (token : TokenKind) (rest : Kinds) → length tokens < most
+    → statements names most most tokens ≡ Ok (body, token ∷ rest) → StopsBefore tokens (token ∷ rest)
+stops_behind names most body tokens token rest few read =
+    let x = reads_ok body (token ∷ rest) ((reads_body 0 most).reads names 0 most tokens (fits most tokens few)) read in
+    record {
+      front = x.0;
+      cut = x.1;
+      goes_on = let y = some_script names body x.0 x.2 in (y.0, [], subst (Spells y.0) (sym (append-nil x.0)) y.1);
+      refused = never_refused most x.0 (token ∷ rest) (λ others bound later other more same is.
+          let y = x.4 (others, 0, bound, larger most bound more) later same in
+          let end : later ≡ [] = ap (λ t. t.1) (ok_once _ _ (sym y.1 ∙ is)) in
+          some_or_none token (sym same ∙ ap first_of end));
+    }
 
 -- reading stopped within statements
-stops_within : (names : Names) (most : ℕ) (tokens rest : Kinds) → Stuck 0 SpellsBody (λ names left most. statements names most most) names 0 most tokens rest → StopsBefore tokens rest
-stops_within names most tokens rest x = record {
-  front = x.front;
-  cut = x.cut;
-  goes_on = let y = some_script names x.value (x.front ++ x.more) x.spelled in (y.0, x.more, y.1);
-  refused = never_refused most x.front rest (λ others bound later other more same is.
-      ok_or_err _ _ (sym is ∙ x.again others 0 bound later (larger most bound more) same));
-}
+stops_within : (names : Names) (most : ℕ) (tokens rest : Kinds) → length tokens < most → statements names most most tokens ≡ Err rest → StopsBefore tokens rest
+stops_within names most tokens rest few read =
+    let x = reads_err rest ((reads_body 0 most).reads names 0 most tokens (fits most tokens few)) read in
+    record {
+      front = x.0;
+      cut = x.3;
+      goes_on = let y = some_script names x.1 (x.0 ++ x.2) x.4 in (y.0, x.2, y.1);
+      refused = never_refused most x.0 rest (λ others bound later other more same is.
+          ok_or_err _ _ (sym is ∙ x.5 (others, 0, bound, larger most bound more) later same));
+    }
 
 abbrev Gives : Kinds → Result Script Kinds → Type 0
 Gives tokens result = MatchResult result (λ script. Spells script tokens) (λ rest. StopsBefore tokens rest)
@@ -87,12 +91,10 @@ Gives tokens result = MatchResult result (λ script. Spells script tokens) (λ r
 read_gives : (tokens : Kinds) (read : Reading (List Stmt)) → statements (each_once (names_in tokens)) (length tokens + 1) (length tokens + 1) tokens ≡ read
     → Gives tokens (with_names (each_once (names_in tokens)) (ended read))
 read_gives tokens (Ok (body, [])) is =
-    let x = (reads_body 0 (length tokens + 1)).sound (each_once (names_in tokens)) 0 (length tokens + 1) body tokens [] (fits _ tokens (omega arith)) is in
-    record { named = refl; body = subst (SpellsBody (each_once (names_in tokens)) body) (sym (append-nil x.used) ∙ sym x.cut) x.spelled }
-read_gives tokens (Ok (body, token ∷ rest)) is =
-    stops_behind _ _ body tokens token rest ((reads_body 0 (length tokens + 1)).sound (each_once (names_in tokens)) 0 (length tokens + 1) body tokens (token ∷ rest) (fits _ tokens (omega arith)) is)
-read_gives tokens (Err rest) is =
-    stops_within _ _ tokens rest ((reads_body 0 (length tokens + 1)).stuck (each_once (names_in tokens)) 0 (length tokens + 1) tokens rest (fits _ tokens (omega arith)) is)
+    let x = reads_ok body [] ((reads_body 0 (length tokens + 1)).reads (each_once (names_in tokens)) 0 (length tokens + 1) tokens (fits _ tokens (omega arith))) is in
+    record { named = refl; body = subst (SpellsBody (each_once (names_in tokens)) body) (sym (append-nil x.0) ∙ sym x.1) x.2 }
+read_gives tokens (Ok (body, token ∷ rest)) is = stops_behind (each_once (names_in tokens)) (length tokens + 1) body tokens token rest (omega arith) is
+read_gives tokens (Err rest) is = stops_within (each_once (names_in tokens)) (length tokens + 1) tokens rest (omega arith) is
 
 -- reading gives the script that is spelled, or where the tokens are refused
 pub read_script-gives : (tokens : Kinds) → MatchResult (read_script tokens) (λ script. Spells script tokens) (λ rest. StopsBefore tokens rest)

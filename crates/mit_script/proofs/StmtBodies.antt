@@ -38,11 +38,11 @@ begins_no_else (Some (Keyword place)) begins = elim (eqb_tells place word.ELSE) 
 ]
 begins_no_else (Some _) begins = refl
 
--- the statements behind the first one
+-- the statements after the first one
 abbrev Rest : Spelling (Names × Stmt) (List Stmt)
 Rest = Made (λ q. SpellsBody q.0) (λ q rest. (q.1 ∷ []) ++ rest)
 
--- a statement and those behind it, or none
+-- a statement and those after it, or none
 abbrev BodyForm : Spelling Names (List Stmt)
 BodyForm = Or (Bind SpellsStmt Rest) (Pure (λ names. []))
 
@@ -70,7 +70,7 @@ body_first names body tokens after (followed {first = s} {tokens = front} {other
     let begins : first_begins (first_of all) ≡ true = sym (begins-first all) ∙ stmt_begins names s front (others ++ after) x in
     subst (λ t. EndsStmt (first_of t)) (sym (append_assoc front others after)) (begins_no_else (first_of all) begins)
 
--- the same of the statements behind the first one
+-- the same of the statements after the first one
 rest_first : (names : Names) (s : Stmt) (body : List Stmt) (tokens after : Kinds) → Rest (names, s) body tokens → EndsBody (first_of after) → EndsStmt (first_of (tokens ++ after))
 rest_first names s body tokens after (made {a = rest} x) ends = body_first names rest tokens after x ends
 

@@ -112,9 +112,9 @@ write_seen names s tokens after (made (with_end {op = op} {tokens = front} x)) =
     ap (sees_word word.WRITE) (append_assoc front (Symbol symbol.SEMICOLON ∷ []) after) ∙ write_first _ op front (Symbol symbol.SEMICOLON ∷ after) x.form
 
 -- so it begins as a statement does
-pub write_begins : (number : List ℕ → ℕ) (op : OpSpec) (tokens behind after : Kinds) → SpellsWrite number op tokens → begins_statement ((tokens ++ behind) ++ after) ≡ true
+pub write_begins : (number : List ℕ → ℕ) (op : OpSpec) (tokens further after : Kinds) → SpellsWrite number op tokens → begins_statement ((tokens ++ further) ++ after) ≡ true
 unfolding begins_statement
-write_begins number op tokens behind after (write_form bag x) = refl
+write_begins number op tokens further after (write_form bag x) = refl
 
 -- ---- blocks
 
@@ -122,7 +122,7 @@ write_begins number op tokens behind after (write_form bag x) = refl
 abbrev Inner : Type 0
 Inner = Reader Names (List Stmt)
 
--- the rest of a block, behind its `{`
+-- the rest of a block, after its `{`
 abbrev Block : Spelling Names (List Stmt)
 Block = Bind SpellsBody (Made (SymbolOf symbol.RIGHT_BRACE) (λ q end. q.1))
 
@@ -131,7 +131,7 @@ unfolding block_at
 reads_block inner reads = follow reads (make (reads_one_symbol symbol.RIGHT_BRACE) (λ q end. q.1))
     (begins_made (SymbolOf symbol.RIGHT_BRACE) (λ q end. q.1) EndsBody (begins_one (λ u. Symbol symbol.RIGHT_BRACE) EndsBody (λ u. (refl, refl))))
 
--- what stands behind the first block of an `if`
+-- what stands after the first block of an `if`
 abbrev ElseForm : Spelling Names (List Stmt)
 ElseForm = Or (AfterWord word.ELSE (AfterSymbol symbol.LEFT_BRACE Block)) (Pure (λ names. []))
 
@@ -166,7 +166,7 @@ reads_branch inner reads =
     (then_any (along (λ q. q.0) (reads_block inner reads)) (make (along (λ q. q.0.0) (reads_else inner reads)) (λ q no_block. stmt.If q.0.1.0 q.0.1.1 q.1 no_block)))
     (ended_length SpellsCondition symbol.LEFT_BRACE) (λ p a c tokens after x e. tt)
 
--- a `while`, behind its keyword
+-- a `while`, after its keyword
 abbrev LoopForm : Spelling Names Stmt
 LoopForm = Bind ConditionEnded (Made (λ q. Block q.0) (λ q body. stmt.While q.1.0 q.1.1 body))
 
@@ -200,7 +200,7 @@ reads_stmt_form inner reads =
     (λ p a tokens after x e. or_unseen word.WRITE (AfterWord word.IF BranchForm) (Or (AfterWord word.WHILE LoopForm) AssignForm) (word_unseen word.IF word.WRITE BranchForm refl)
     (or_unseen word.WRITE (AfterWord word.WHILE LoopForm) AssignForm (word_unseen word.WHILE word.WRITE LoopForm refl) (assign_unseen word.WRITE)) p a tokens after x)
 
--- the braces of one block, and of a block and what is behind it
+-- the braces of one block, and of a block and what is after it
 one_block : (first opening closing : TokenKind) (tokens inside : Kinds)
     → (first ∷ []) ++ ((tokens ++ opening ∷ []) ++ (inside ++ closing ∷ [])) ≡ first ∷ tokens ++ opening ∷ inside ++ closing ∷ []
 one_block first opening closing tokens inside =
@@ -217,7 +217,7 @@ block_is : (names : Names) (body : List Stmt) (tokens : Kinds) → Block names b
     → (inside : Kinds) × (tokens ≡ inside ++ Symbol symbol.RIGHT_BRACE ∷ []) × SpellsBody names body inside
 block_is names body tokens (both {front = inside} x (made one)) = (inside, refl, x)
 
--- the statements behind the first block
+-- the statements after the first block
 else_of : (names : Names) (operator : Operation) (yes_block : List Stmt) (s : Stmt) (tokens : Kinds)
     → Made {P = (Names × Operation) × List Stmt} (λ q. SpellsElse q.0.0) (λ q no_block. stmt.If q.0.1.0 q.0.1.1 q.1 no_block) ((names, operator), yes_block) s tokens
     → (no_block : List Stmt) × (s ≡ stmt.If operator.0 operator.1 yes_block no_block) × SpellsElse names no_block tokens

@@ -8,11 +8,11 @@ use Rattle.mit_lex.specs.declared.token.TokenKind.{TokenKind}
 use Rattle.mit_lex.specs.declared.token.TokenKind.TheVariants.{Symbol}
 use Rattle.mit_script.specs.Grammar.{Kinds, SpellsOver, arguments_in, captured_in, number_in}
 use Rattle.mit_script.specs.Reading.{Reading, ◌>>=◌, Operation, bags_ahead, expect_symbol, number_ahead, operation, run_of}
-use Rattle.mit_script.proofs.Readers.{first_of, first_of-append, ok_once, ok_or_err}
+use Rattle.mit_script.proofs.Readers.{first_of, first_of-append, ok_once, ok_or_err, reads_err, reads_ok, stops_there, takes_these}
 use Rattle.mit_script.proofs.RunLemmas.{is_run, run_of-append}
 use Rattle.mit_script.proofs.RightReaders.{Numbers}
-use Rattle.mit_script.proofs.StmtReaders.{Spelling, IsReader, Read, Stuck, Fits, fits_front, fits_back, bind_ok, bind_err}
-use Rattle.mit_script.proofs.StmtTokens.{Whatever, SymbolOf, reads_one_symbol, one_is}
+use Rattle.mit_script.proofs.StmtReaders.{Spelling, IsReader, ReadsWithin, Fits, fits_front, fits_back, bind_ok, bind_err}
+use Rattle.mit_script.proofs.StmtTokens.{Whatever, reads_one_symbol, one_is}
 
 -- a form of operators: its reader, and what the numbers of names change
 pub record IsForm (Form : Spelling Numbers OpSpec) (F : Option TokenKind → Type 0) (form : Numbers → ℕ → Kinds → Reading OpSpec) (ending : ℕ) : Type 0 where
@@ -72,8 +72,8 @@ viable Form F form ending is names number op tokens x =
 symbol_read : (ending : ℕ) (tokens rest : Kinds) (u : Unit {0}) → expect_symbol ending tokens ≡ Ok (u, rest) → tokens ≡ Symbol ending ∷ rest
 symbol_read ending tokens rest u is =
     let most = length tokens + 1 in
-    let x = (reads_one_symbol {P = Unit {0}} {top = 0} {slack = most} ending).sound tt 0 most u tokens rest (record { low = omega arith; deep = omega arith; wide = omega arith }) is in
-    x.cut ∙ ap (λ front. front ++ rest) (one_is (λ (v : Unit {0}). Symbol ending) tt u x.used x.spelled)
+    let x = reads_ok u rest ((reads_one_symbol {P = Unit {0}} {top = 0} {slack = most} ending).reads tt 0 most tokens (record { low = omega arith; deep = omega arith; wide = omega arith })) is in
+    x.1 ∙ ap (λ front. front ++ rest) (one_is (λ (v : Unit {0}). Symbol ending) tt u x.0 x.2)
 
 -- what an operator that was read is
 pub record WasRead (Form : Spelling Numbers OpSpec) (ending : ℕ) (names : List (List ℕ)) (made : Operation) (tokens rest : Kinds) : Type 0 where
@@ -93,16 +93,16 @@ was_read Form F form ending is names most made tokens rest few e =
     let same : Path (Operation × Kinds) ((a.0.0, arguments_in names (bag_inputs_of a.0.0) (run_of tokens)), b.0.1) (made, rest) = ok_once _ _ b.2 in
     let op_same : a.0.0 ≡ made.0 = ap (λ t. t.0.0) same in
     let fits : Fits 0 most 0 most tokens = record { low = omega arith; deep = omega (arith, few); wide = few } in
-    let x : Read 0 Form (λ number left most. form number most) (number_ahead tokens) 0 most a.0.0 tokens a.0.1 = (is.reads 0 most).sound (number_ahead tokens) 0 most a.0.0 tokens a.0.1 fits a.1 in
+    let x = reads_ok a.0.0 a.0.1 ((is.reads 0 most).reads (number_ahead tokens) 0 most tokens fits) a.1 in
     let end : a.0.1 ≡ Symbol ending ∷ rest = symbol_read ending a.0.1 b.0.1 b.0.0 b.1 ∙ ap (λ t. Symbol ending ∷ t.1) same in
-    let cut : tokens ≡ x.used ++ Symbol ending ∷ rest = x.cut ∙ ap (λ back. x.used ++ back) end in
-    let run : run_of tokens ≡ x.used = ap run_of cut ∙ run_of-append x.used (Symbol ending) rest (is.in_run (number_ahead tokens) a.0.0 x.used x.spelled) is.ends_it in
-    let own : Form (own_number a.0.0 x.used) a.0.0 x.used
-    = with_own Form a.0.0 x.used tokens run (rw (sym x.cut) at (is.bags (number_ahead tokens) a.0.0 x.used a.0.1 x.spelled)) x.spelled in
+    let cut : tokens ≡ x.0 ++ Symbol ending ∷ rest = x.1 ∙ ap (λ back. x.0 ++ back) end in
+    let run : run_of tokens ≡ x.0 = ap run_of cut ∙ run_of-append x.0 (Symbol ending) rest (is.in_run (number_ahead tokens) a.0.0 x.0 x.2) is.ends_it in
+    let own : Form (own_number a.0.0 x.0) a.0.0 x.0
+    = with_own Form a.0.0 x.0 tokens run (rw (sym x.1) at (is.bags (number_ahead tokens) a.0.0 x.0 a.0.1 x.2)) x.2 in
     record {
-      used = x.used;
+      used = x.0;
       cut = cut;
-      op_is = subst (λ o. Form (own_number o x.used) o x.used) op_same own;
+      op_is = subst (λ o. Form (own_number o x.0) o x.0) op_same own;
       args_are = sym (ap (λ t. t.0.1) same) ∙ ap (λ o. arguments_in names (bag_inputs_of o) (run_of tokens)) op_same ∙ ap (arguments_in names (bag_inputs_of made.0)) run;
     }
 
@@ -118,76 +118,69 @@ operation_complete top slack Form F form ending is names left most made tokens a
 -- an operator and its end that are read are spelled
 operation_sound : (top slack : ℕ) (Form : Spelling Numbers OpSpec) (F : Option TokenKind → Type 0) (form : Numbers → ℕ → Kinds → Reading OpSpec) (ending : ℕ) → IsForm Form F form ending
     → (names : List (List ℕ)) (left most : ℕ) (made : Operation) (tokens rest : Kinds) → Fits top slack left most tokens → operation form ending names most tokens ≡ Ok (made, rest)
-    → Read top (Ended Form ending) (λ names left most. operation form ending names most) names left most made tokens rest
+    → ReadsWithin top (Ended Form ending) (λ names left most. operation form ending names most) names left most tokens (Ok (made, rest))
 operation_sound top slack Form F form ending is names left most made tokens rest fits e =
     let x = was_read Form F form ending is names most made tokens rest fits.wide e in
     let few : Fits top slack left most x.used = fits_front top slack left most x.used (Symbol ending ∷ rest) (rw x.cut at fits) in
-    record {
-      used = x.used ++ Symbol ending ∷ [];
-      cut = x.cut ∙ sym (append_assoc x.used (Symbol ending ∷ []) rest);
-      spelled = with_end (record { form = x.op_is; over = x.args_are });
-      again = λ q depth bound later larger same. (
-        (made.0, arguments_in q (bag_inputs_of made.0) x.used),
-        ap (operation form ending q bound) (append_assoc x.used (Symbol ending ∷ []) later)
-            ∙ operation_reads Form F form ending is q bound made.0 x.used later (omega (arith, few.wide, larger.wide)) x.op_is,
-      );
-    }
+    takes_these made (x.used ++ Symbol ending ∷ []) rest tokens (x.cut ∙ sym (append_assoc x.used (Symbol ending ∷ []) rest)) (with_end (record { form = x.op_is; over = x.args_are })) tt
+    (λ o later same. (
+      (made.0, arguments_in o.0 (bag_inputs_of made.0) x.used),
+      ap (operation form ending o.0 o.2) (append_assoc x.used (Symbol ending ∷ []) later)
+          ∙ operation_reads Form F form ending is o.0 o.2 made.0 x.used later (omega (arith, few.wide, o.3.wide)) x.op_is,
+    ))
+
+-- neither is read where the operator is not, and where the symbol after it is not
+operator_fails : (form : Numbers → ℕ → Kinds → Reading OpSpec) (ending : ℕ) (names : List (List ℕ)) (most : ℕ) (tokens rest : Kinds)
+    → form (number_ahead tokens) most tokens ≡ Err rest → operation form ending names most tokens ≡ Err rest
+unfolding operation
+operator_fails form ending names most tokens rest is = rw is refl
+
+ending_fails : (form : Numbers → ℕ → Kinds → Reading OpSpec) (ending : ℕ) (names : List (List ℕ)) (most : ℕ) (op : OpSpec) (tokens mid rest : Kinds)
+    → form (number_ahead tokens) most tokens ≡ Ok (op, mid) → expect_symbol ending mid ≡ Err rest → operation form ending names most tokens ≡ Err rest
+unfolding operation
+ending_fails form ending names most op tokens mid rest is stops = rw (is, stops) refl
 
 -- the operator itself is not read
 operator_stuck : (top slack : ℕ) (Form : Spelling Numbers OpSpec) (F : Option TokenKind → Type 0) (form : Numbers → ℕ → Kinds → Reading OpSpec) (ending : ℕ) → IsForm Form F form ending
-    → (names : List (List ℕ)) (left most : ℕ) (tokens rest : Kinds) → Stuck top Form (λ number left most. form number most) (number_ahead tokens) left most tokens rest
-    → Stuck top (Ended Form ending) (λ names left most. operation form ending names most) names left most tokens rest
-unfolding operation
-operator_stuck top slack Form F form ending is names left most tokens rest x =
-    let y = viable Form F form ending is names (number_ahead tokens) x.value (x.front ++ x.more) x.spelled in
-    record {
-      front = x.front;
-      more = x.more ++ Symbol ending ∷ [];
-      value = y.0;
-      cut = x.cut;
-      spelled = subst (Ended Form ending names y.0) (append_assoc x.front x.more (Symbol ending ∷ [])) y.1;
-      again = λ q depth bound later larger same. rw (x.again (number_ahead (x.front ++ later)) depth bound later larger same) refl;
-    }
+    → (names : List (List ℕ)) (left most : ℕ) (tokens rest : Kinds) → Fits top slack left most tokens → form (number_ahead tokens) most tokens ≡ Err rest
+    → ReadsWithin top (Ended Form ending) (λ names left most. operation form ending names most) names left most tokens (Err rest)
+operator_stuck top slack Form F form ending is names left most tokens rest fits e =
+    let x = reads_err rest ((is.reads top slack).reads (number_ahead tokens) left most tokens fits) e in
+    let y = viable Form F form ending is names (number_ahead tokens) x.1 (x.0 ++ x.2) x.4 in
+    stops_there y.0 x.0 rest (x.2 ++ Symbol ending ∷ []) tokens x.3 (subst (Ended Form ending names y.0) (append_assoc x.0 x.2 (Symbol ending ∷ [])) y.1)
+    (λ o later same. operator_fails form ending o.0 o.2 (x.0 ++ later) later (x.5 (number_ahead (x.0 ++ later), o.1, o.2, o.3) later same))
 
--- the operator is read, and not the symbol behind it
+-- the operator is read, and not the symbol after it
 ending_stuck : (top slack : ℕ) (Form : Spelling Numbers OpSpec) (F : Option TokenKind → Type 0) (form : Numbers → ℕ → Kinds → Reading OpSpec) (ending : ℕ) → IsForm Form F form ending
-    → (names : List (List ℕ)) (left most : ℕ) (op : OpSpec) (tokens mid rest : Kinds) → Read top Form (λ number left most. form number most) (number_ahead tokens) left most op tokens mid
-    → Stuck {P = Unit {0}} top (SymbolOf ending) (λ p left most. expect_symbol ending) tt left most mid rest
-    → Stuck top (Ended Form ending) (λ names left most. operation form ending names most) names left most tokens rest
-unfolding operation
-ending_stuck top slack Form F form ending is names left most op tokens mid rest x y =
-    let z = viable Form F form ending is names (number_ahead tokens) op x.used x.spelled in
-    let symbol_is : y.front ++ y.more ≡ Symbol ending ∷ [] = one_is (λ (u : Unit {0}). Symbol ending) tt y.value (y.front ++ y.more) y.spelled in
-    record {
-      front = x.used ++ y.front;
-      more = y.more;
-      value = z.0;
-      cut = x.cut ∙ ap (λ back. x.used ++ back) y.cut ∙ sym (append_assoc x.used y.front rest);
-      spelled = subst (Ended Form ending names z.0) (ap (λ back. x.used ++ back) (sym symbol_is) ∙ sym (append_assoc x.used y.front y.more)) z.1;
-      again = λ q depth bound later larger same.
-          let all = x.used ++ (y.front ++ later) in
-          let same' : first_of (y.front ++ later) ≡ first_of mid = first_of-append y.front later rest same ∙ ap first_of (sym y.cut) in
-          let x' = x.again (number_ahead all) depth bound (y.front ++ later) larger same' in
-          rw (append_assoc x.used y.front later, x'.1, y.again tt depth bound later larger same) refl;
-    }
+    → (names : List (List ℕ)) (left most : ℕ) (op : OpSpec) (tokens mid rest : Kinds) → Fits top slack left most tokens → form (number_ahead tokens) most tokens ≡ Ok (op, mid)
+    → expect_symbol ending mid ≡ Err rest → ReadsWithin top (Ended Form ending) (λ names left most. operation form ending names most) names left most tokens (Err rest)
+ending_stuck top slack Form F form ending is names left most op tokens mid rest fits e f =
+    let x = reads_ok op mid ((is.reads top slack).reads (number_ahead tokens) left most tokens fits) e in
+    let y = reads_err rest ((reads_one_symbol {P = Unit {0}} {top = top} {slack = slack} ending).reads tt left most mid (fits_back top slack slack left most x.0 mid (omega arith) (rw x.1 at fits))) f in
+    let z = viable Form F form ending is names (number_ahead tokens) op x.0 x.2 in
+    let symbol_is : y.0 ++ y.2 ≡ Symbol ending ∷ [] = one_is (λ (u : Unit {0}). Symbol ending) tt y.1 (y.0 ++ y.2) y.4 in
+    stops_there z.0 (x.0 ++ y.0) rest y.2 tokens (x.1 ∙ ap (λ back. x.0 ++ back) y.3 ∙ sym (append_assoc x.0 y.0 rest))
+    (subst (Ended Form ending names z.0) (ap (λ back. x.0 ++ back) (sym symbol_is) ∙ sym (append_assoc x.0 y.0 y.2)) z.1)
+    (λ o later same.
+    let same' : first_of (y.0 ++ later) ≡ first_of mid = first_of-append y.0 later rest same ∙ ap first_of (sym y.3) in
+    let x' = x.4 (number_ahead (x.0 ++ (y.0 ++ later)), o.1, o.2, o.3) (y.0 ++ later) same' in
+    subst (λ all. operation form ending o.0 o.2 all ≡ Err later) (sym (append_assoc x.0 y.0 later))
+    (ending_fails form ending o.0 o.2 x'.0 (x.0 ++ (y.0 ++ later)) (y.0 ++ later) later x'.1 (y.5 (tt, o.1, o.2, o.3) later same)))
 
--- where they are not read, some operator and its end begin so
-operation_stuck : (top slack : ℕ) (Form : Spelling Numbers OpSpec) (F : Option TokenKind → Type 0) (form : Numbers → ℕ → Kinds → Reading OpSpec) (ending : ℕ) → IsForm Form F form ending
-    → (names : List (List ℕ)) (left most : ℕ) (tokens rest : Kinds) → Fits top slack left most tokens → operation form ending names most tokens ≡ Err rest
-    → Stuck top (Ended Form ending) (λ names left most. operation form ending names most) names left most tokens rest
+-- what reading an operator and its end gives
+operation_gives : (top slack : ℕ) (Form : Spelling Numbers OpSpec) (F : Option TokenKind → Type 0) (form : Numbers → ℕ → Kinds → Reading OpSpec) (ending : ℕ) → IsForm Form F form ending
+    → (names : List (List ℕ)) (left most : ℕ) (tokens : Kinds) (result : Reading Operation) → Fits top slack left most tokens → operation form ending names most tokens ≡ result
+    → ReadsWithin top (Ended Form ending) (λ names left most. operation form ending names most) names left most tokens result
 unfolding operation
-operation_stuck top slack Form F form ending is names left most tokens rest fits e =
+operation_gives top slack Form F form ending is names left most tokens (Ok (made, rest)) fits e = operation_sound top slack Form F form ending is names left most made tokens rest fits e
+operation_gives top slack Form F form ending is names left most tokens (Err rest) fits e =
     elim (bind_err (form (number_ahead tokens) most tokens)
     (λ op. expect_symbol ending op.1 >>= λ end. Ok ((op.0, arguments_in names (bag_inputs_of op.0) (run_of tokens)), end.1)) rest e) [
-      | inl f ↦ operator_stuck top slack Form F form ending is names left most tokens rest ((is.reads top slack).stuck (number_ahead tokens) left most tokens rest fits f)
-      | inr a ↦
-          let x : Read top Form (λ number left most. form number most) (number_ahead tokens) left most a.0.0 tokens a.0.1
-          = (is.reads top slack).sound (number_ahead tokens) left most a.0.0 tokens a.0.1 fits a.1 in
-          elim (bind_err (expect_symbol ending a.0.1) (λ end. Ok ((a.0.0, arguments_in names (bag_inputs_of a.0.0) (run_of tokens)), end.1)) rest a.2) [
-            | inl f ↦ ending_stuck top slack Form F form ending is names left most a.0.0 tokens a.0.1 rest x
-                ((reads_one_symbol ending).stuck tt left most a.0.1 rest (fits_back top slack slack left most x.used a.0.1 (omega arith) (rw x.cut at fits)) f)
-            | inr b ↦ absurd (ok_or_err _ _ b.2)
-          ]
+      | inl f ↦ operator_stuck top slack Form F form ending is names left most tokens rest fits f
+      | inr a ↦ elim (bind_err (expect_symbol ending a.0.1) (λ end. Ok ((a.0.0, arguments_in names (bag_inputs_of a.0.0) (run_of tokens)), end.1)) rest a.2) [
+        | inl f ↦ ending_stuck top slack Form F form ending is names left most a.0.0 tokens a.0.1 rest fits a.1 f
+        | inr b ↦ absurd (ok_or_err _ _ b.2)
+      ]
     ]
 
 -- the reader of an operator and its end
@@ -196,6 +189,5 @@ pub reads_operation : {top slack : ℕ} (Form : Spelling Numbers OpSpec) (F : Op
 reads_operation {top = top} {slack = slack} Form F form ending is = record {
   some = λ names. let x = (is.reads 0 0).some (λ name. 0) in let y = viable Form F form ending is names (λ name. 0) x.0 x.1 x.2 in (y.0, x.1 ++ Symbol ending ∷ [], y.1);
   complete = λ names left most made tokens after fits x e. operation_complete top slack Form F form ending is names left most made tokens after fits x;
-  sound = operation_sound top slack Form F form ending is;
-  stuck = operation_stuck top slack Form F form ending is;
+  reads = λ names left most tokens fits. operation_gives top slack Form F form ending is names left most tokens (operation form ending names most tokens) fits refl;
 }

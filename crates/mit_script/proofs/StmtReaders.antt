@@ -4,7 +4,7 @@ use Rattle.std.proofs.lemmas.List.{append_cancel_right}
 use Rattle.mit_lex.specs.declared.token.TokenKind.{TokenKind}
 use Rattle.mit_script.specs.Grammar.{Kinds}
 use Rattle.mit_script.specs.Reading.{Reading, ◌>>=◌}
-use Rattle.mit_script.proofs.Readers.{err_once, first_of, first_of-append, ok_once, ok_or_err, some_or_none}
+use Rattle.mit_script.proofs.Readers.{Anything, Reads, err_once, first_of, ok_or_err, reads_as, reads_err, reads_made, reads_none, reads_ok, reads_then, reads_token, reads_where, refuses_end, refuses_token, stops_there, takes_these}
 
 -- the tokens are within both bounds of a reader; the first bound, of the depth, is at most `top`
 pub record Fits (top slack left most : ℕ) (tokens : Kinds) : Type 0 where
@@ -25,33 +25,20 @@ Reader P A = P → ℕ → ℕ → Kinds → Reading A
 abbrev pub Spelling : Type 0 → Type 0 → Type 1
 Spelling P A = P → A → Kinds → Type 0
 
--- what was read, and is read again before any tokens that begin alike
-pub record Read {P A : Type 0} (top : ℕ) (R : Spelling P A) (r : Reader P A) (p : P) (left most : ℕ) (a : A) (tokens rest : Kinds) : Type 0 where
-  pub used : Kinds
-  pub cut : tokens ≡ used ++ rest
-  pub spelled : R p a used
-  pub again : (q : P) (depth bound : ℕ) (later : Kinds) → Larger top left most depth bound → first_of later ≡ first_of rest
-      → (b : A) × (r q depth bound (used ++ later) ≡ Ok (b, later))
+-- another parameter, with bounds that are no smaller
+abbrev pub Others : Type 0 → ℕ → ℕ → ℕ → Type 0
+Others P top left most = (q : P) × (depth : ℕ) × (bound : ℕ) × Larger top left most depth bound
 
--- where reading stopped: what is before can be completed, and reading stops there before any tokens that begin alike
-pub record Stuck {P A : Type 0} (top : ℕ) (R : Spelling P A) (r : Reader P A) (p : P) (left most : ℕ) (tokens rest : Kinds) : Type 0 where
-  pub front : Kinds
-  pub more : Kinds
-  pub value : A
-  pub cut : tokens ≡ front ++ rest
-  pub spelled : R p value (front ++ more)
-  pub again : (q : P) (depth bound : ℕ) (later : Kinds) → Larger top left most depth bound → first_of later ≡ first_of rest
-      → r q depth bound (front ++ later) ≡ Err later
+-- what reading these tokens gives; the others are the same reader with other parameters
+abbrev pub ReadsWithin : {P A : Type 0} → ℕ → Spelling P A → Reader P A → P → ℕ → ℕ → Kinds → Reading A → Type 0
+ReadsWithin {P = P} top R r p left most = Reads (R p) Anything (λ (x : Others P top left most). r x.0 x.1 x.2)
 
--- a reader reads just what is spelled, where what may follow stands behind it
+-- a reader reads just what is spelled, where what may follow stands after it
 pub record IsReader {P A : Type 0} (top slack : ℕ) (R : Spelling P A) (F : Option TokenKind → Type 0) (r : Reader P A) : Type 0 where
   pub some : (p : P) → (a : A) × (tokens : Kinds) × R p a tokens
   pub complete : (p : P) (left most : ℕ) (a : A) (tokens after : Kinds) → Fits top slack left most tokens → R p a tokens → F (first_of after)
       → r p left most (tokens ++ after) ≡ Ok (a, after)
-  pub sound : (p : P) (left most : ℕ) (a : A) (tokens rest : Kinds) → Fits top slack left most tokens → r p left most tokens ≡ Ok (a, rest)
-      → Read top R r p left most a tokens rest
-  pub stuck : (p : P) (left most : ℕ) (tokens rest : Kinds) → Fits top slack left most tokens → r p left most tokens ≡ Err rest
-      → Stuck top R r p left most tokens rest
+  pub reads : (p : P) (left most : ℕ) (tokens : Kinds) → Fits top slack left most tokens → ReadsWithin top R r p left most tokens (r p left most tokens)
 
 -- ---- results
 
@@ -76,7 +63,7 @@ pub fits_back : (top slack other left most : ℕ) (front back : Kinds) → slack
     → Fits top other left most back
 fits_back top slack other left most front back spare fits = record { low = fits.low; deep = grind (arith, length-append, fits.deep, spare); wide = grind (arith, length-append, fits.wide) }
 
--- ---- one piece behind another
+-- ---- one piece after another
 
 pub data Bind {P A C : Type 0} (R : Spelling P A) (S : Spelling (P × A) C) (p : P) : C → Kinds → Type 0 where
   both : {a : A} {c : C} {front back : Kinds} → R p a front → S (p, a) c back → Bind R S p c (front ++ back)
@@ -101,65 +88,17 @@ bind_complete top slack other R F G r S s first second spare meets p left most c
     )
     (second.complete (p, a) left most c back after (fits_back top slack other left most front back (spare p a front x) fits) y ends)
 
--- two pieces that are read are spelled
-bind_sound : {P A C : Type 0} (top slack other : ℕ) (R : Spelling P A) (F G : Option TokenKind → Type 0) (r : Reader P A) (S : Spelling (P × A) C) (s : Reader (P × A) C)
+-- what reading two pieces gives
+bind_reads : {P A C : Type 0} (top slack other : ℕ) (R : Spelling P A) (F G : Option TokenKind → Type 0) (r : Reader P A) (S : Spelling (P × A) C) (s : Reader (P × A) C)
     → IsReader top slack R F r → IsReader top other S G s → ((p : P) (a : A) (tokens : Kinds) → R p a tokens → slack ≤ other + length tokens)
-    → (p : P) (left most : ℕ) (c : C) (tokens rest : Kinds) → Fits top slack left most tokens → bound r s p left most tokens ≡ Ok (c, rest)
-    → Read top (Bind R S) (bound r s) p left most c tokens rest
-bind_sound top slack other R F G r S s first second spare p left most c tokens rest fits is =
-    let split = bind_ok (r p left most tokens) (λ a. s (p, a.0) left most a.1) (c, rest) is in
-    let a = split.0.0 in
-    let x : Read top R r p left most a tokens split.0.1 = first.sound p left most a tokens split.0.1 fits split.1 in
-    let behind : Fits top other left most split.0.1
-    = fits_back top slack other left most x.used split.0.1 (spare p a x.used x.spelled) (rw x.cut at fits) in
-    let y : Read top S s (p, a) left most c split.0.1 rest = second.sound (p, a) left most c split.0.1 rest behind split.2 in
-    record {
-      used = x.used ++ y.used;
-      cut = x.cut ∙ ap (λ back. x.used ++ back) y.cut ∙ sym (append_assoc x.used y.used rest);
-      spelled = both x.spelled y.spelled;
-      again = λ q depth bound later larger same.
-          let same' : first_of (y.used ++ later) ≡ first_of split.0.1 = first_of-append y.used later rest same ∙ ap first_of (sym y.cut) in
-          let x' = x.again q depth bound (y.used ++ later) larger same' in
-          let y' = y.again (q, x'.0) depth bound later larger same in
-          (y'.0, rw (append_assoc x.used y.used later, x'.1) y'.1);
-    }
-
--- where two pieces are not read, some two pieces begin so
-bind_stuck : {P A C : Type 0} (top slack other : ℕ) (R : Spelling P A) (F G : Option TokenKind → Type 0) (r : Reader P A) (S : Spelling (P × A) C) (s : Reader (P × A) C)
-    → IsReader top slack R F r → IsReader top other S G s → ((p : P) (a : A) (tokens : Kinds) → R p a tokens → slack ≤ other + length tokens)
-    → (p : P) (left most : ℕ) (tokens rest : Kinds) → Fits top slack left most tokens → bound r s p left most tokens ≡ Err rest
-    → Stuck top (Bind R S) (bound r s) p left most tokens rest
-bind_stuck top slack other R F G r S s first second spare p left most tokens rest fits is =
-    elim (bind_err (r p left most tokens) (λ a. s (p, a.0) left most a.1) rest is) [
-      | inl e ↦
-          let x : Stuck top R r p left most tokens rest = first.stuck p left most tokens rest fits e in
-          let y = second.some (p, x.value) in
-          record {
-            front = x.front;
-            more = x.more ++ y.1;
-            value = y.0;
-            cut = x.cut;
-            spelled = rw (sym (append_assoc x.front x.more y.1)) (both x.spelled y.2);
-            again = λ q depth bound later larger same. rw (x.again q depth bound later larger same) refl;
-          }
-      | inr split ↦
-          let a = split.0.0 in
-          let x : Read top R r p left most a tokens split.0.1 = first.sound p left most a tokens split.0.1 fits split.1 in
-          let behind : Fits top other left most split.0.1
-          = fits_back top slack other left most x.used split.0.1 (spare p a x.used x.spelled) (rw x.cut at fits) in
-          let y : Stuck top S s (p, a) left most split.0.1 rest = second.stuck (p, a) left most split.0.1 rest behind split.2 in
-          record {
-            front = x.used ++ y.front;
-            more = y.more;
-            value = y.value;
-            cut = x.cut ∙ ap (λ back. x.used ++ back) y.cut ∙ sym (append_assoc x.used y.front rest);
-            spelled = rw (append_assoc x.used y.front y.more) (both x.spelled y.spelled);
-            again = λ q depth bound later larger same.
-                let same' : first_of (y.front ++ later) ≡ first_of split.0.1 = first_of-append y.front later rest same ∙ ap first_of (sym y.cut) in
-                let x' = x.again q depth bound (y.front ++ later) larger same' in
-                rw (append_assoc x.used y.front later, x'.1) (y.again (q, x'.0) depth bound later larger same);
-          }
-    ]
+    → (p : P) (left most : ℕ) (tokens : Kinds) → Fits top slack left most tokens → ReadsWithin top (Bind R S) (bound r s) p left most tokens (bound r s p left most tokens)
+bind_reads {P = P} {A = A} top slack other R F G r S s first second spare p left most tokens fits =
+    reads_then (R p) (λ (x : Others P top left most). r x.0 x.1 x.2) (λ a. S (p, a)) Anything (λ x read. s (x.0, read.0) x.1 x.2 read.1) (Bind R S p)
+    (λ a c front back x y. both x y) (λ read. s (p, read.0) left most read.1) (λ a. second.some (p, a))
+    (λ a used rest cut x ends. reads_as (S (p, a)) Anything (λ (y : Others P top left most × A) later. s (y.0.0, y.1) y.0.1 y.0.2 later) (λ c back z. z) (λ after e. e)
+    (λ y. (((y.0.0, y.1), y.0.1, y.0.2, y.0.3), λ later. refl))
+    (second.reads (p, a) left most rest (fits_back top slack other left most used rest (spare p a used x) (rw cut at fits))))
+    (first.reads p left most tokens fits)
 
 -- a piece whose tokens leave room for the next one
 pub bind_within : {P A C : Type 0} {top slack : ℕ} (other : ℕ) {R : Spelling P A} {F G : Option TokenKind → Type 0} {r : Reader P A} {S : Spelling (P × A) C} {s : Reader (P × A) C}
@@ -168,8 +107,7 @@ pub bind_within : {P A C : Type 0} {top slack : ℕ} (other : ℕ) {R : Spelling
 bind_within {top = top} {slack = slack} other {R = R} {F = F} {G = G} {r = r} {S = S} {s = s} first second spare meets = record {
   some = λ p. let x = first.some p in let y = second.some (p, x.0) in (y.0, x.1 ++ y.1, both x.2 y.2);
   complete = bind_complete top slack other R F G r S s first second spare meets;
-  sound = bind_sound top slack other R F G r S s first second spare;
-  stuck = bind_stuck top slack other R F G r S s first second spare;
+  reads = bind_reads top slack other R F G r S s first second spare;
 }
 
 -- a piece, and another one within the same bounds
@@ -191,95 +129,40 @@ made_complete : {P A C : Type 0} (top slack : ℕ) (R : Spelling P A) (F : Optio
     → making r f p left most (tokens ++ after) ≡ Ok (c, after)
 made_complete top slack R F r f reads p left most c tokens after fits (made {a = a} x) ends = rw (reads.complete p left most a tokens after fits x ends) refl
 
-made_sound : {P A C : Type 0} (top slack : ℕ) (R : Spelling P A) (F : Option TokenKind → Type 0) (r : Reader P A) (f : P → A → C)
-    → IsReader top slack R F r → (p : P) (left most : ℕ) (c : C) (tokens rest : Kinds) → Fits top slack left most tokens → making r f p left most tokens ≡ Ok (c, rest)
-    → Read top (Made R f) (making r f) p left most c tokens rest
-made_sound {C = C} top slack R F r f reads p left most c tokens rest fits is =
-    let split = bind_ok (r p left most tokens) (λ a. Ok (f p a.0, a.1)) (c, rest) is in
-    let same : Path (C × Kinds) (f p split.0.0, split.0.1) (c, rest) = ok_once _ _ split.2 in
-    let value : f p split.0.0 ≡ c = ap (λ t. t.0) same in
-    let end : split.0.1 ≡ rest = ap (λ t. t.1) same in
-    let x : Read top R r p left most split.0.0 tokens split.0.1 = reads.sound p left most split.0.0 tokens split.0.1 fits split.1 in
-    record {
-      used = x.used;
-      cut = x.cut ∙ ap (λ back. x.used ++ back) end;
-      spelled = subst (λ v. Made R f p v x.used) value (made x.spelled);
-      again = λ q depth bound later larger same. let y = x.again q depth bound later larger (same ∙ ap first_of (sym end)) in (f q y.0, rw y.1 refl);
-    }
-
-made_stuck : {P A C : Type 0} (top slack : ℕ) (R : Spelling P A) (F : Option TokenKind → Type 0) (r : Reader P A) (f : P → A → C)
-    → IsReader top slack R F r → (p : P) (left most : ℕ) (tokens rest : Kinds) → Fits top slack left most tokens → making r f p left most tokens ≡ Err rest
-    → Stuck top (Made R f) (making r f) p left most tokens rest
-made_stuck top slack R F r f reads p left most tokens rest fits is =
-    elim (bind_err (r p left most tokens) (λ a. Ok (f p a.0, a.1)) rest is) [
-      | inl e ↦ let x : Stuck top R r p left most tokens rest = reads.stuck p left most tokens rest fits e in record {
-        front = x.front;
-        more = x.more;
-        value = f p x.value;
-        cut = x.cut;
-        spelled = made x.spelled;
-        again = λ q depth bound later larger same. rw (x.again q depth bound later larger same) refl;
-      }
-      | inr split ↦ absurd (ok_or_err _ _ split.2)
-    ]
-
 -- what is read, made into another value
 pub make : {P A C : Type 0} {top slack : ℕ} {R : Spelling P A} {F : Option TokenKind → Type 0} {r : Reader P A} → IsReader top slack R F r → (f : P → A → C)
     → IsReader top slack (Made R f) F (making r f)
 make {top = top} {slack = slack} {R = R} {F = F} {r = r} reads f = record {
   some = λ p. let x = reads.some p in (f p x.0, x.1, made x.2);
   complete = made_complete top slack R F r f reads;
-  sound = made_sound top slack R F r f reads;
-  stuck = made_stuck top slack R F r f reads;
+  reads = λ p left most tokens fits. reads_made (Made R f p) (f p) (λ (x : Others _ top left most). f x.0) (λ a used x. made x) (reads.reads p left most tokens fits);
 }
 
 -- ---- the parameter from another one
 
 pub along : {P Q A : Type 0} {top slack : ℕ} {R : Spelling P A} {F : Option TokenKind → Type 0} {r : Reader P A} → (f : Q → P) → IsReader top slack R F r
     → IsReader top slack (λ q. R (f q)) F (λ q. r (f q))
-along f reads = record {
+along {Q = Q} {top = top} {R = R} {r = r} f reads = record {
   some = λ q. reads.some (f q);
   complete = λ q. reads.complete (f q);
-  sound = λ q left most a tokens rest fits is. let x = reads.sound (f q) left most a tokens rest fits is in
-      record { used = x.used; cut = x.cut; spelled = x.spelled; again = λ q'. x.again (f q') };
-  stuck = λ q left most tokens rest fits is. let x = reads.stuck (f q) left most tokens rest fits is in
-      record { front = x.front; more = x.more; value = x.value; cut = x.cut; spelled = x.spelled; again = λ q'. x.again (f q') };
+  reads = λ q left most tokens fits.
+      reads_as (R (f q)) Anything (λ (x : Others Q top left most). r (f x.0) x.1 x.2) (λ a used x. x) (λ rest e. e) (λ x. ((f x.0, x.1, x.2, x.3), λ later. refl))
+      (reads.reads (f q) left most tokens fits);
 }
 
 -- ---- the same words and the same reader in other terms
-
-read_as : {P A : Type 0} (top : ℕ) (R S : Spelling P A) (r s : Reader P A) → ((p : P) (a : A) (tokens : Kinds) → R p a tokens → S p a tokens)
-    → ((p : P) (left most : ℕ) (tokens : Kinds) → r p left most tokens ≡ s p left most tokens)
-    → (p : P) (left most : ℕ) (a : A) (tokens rest : Kinds) → Read top R r p left most a tokens rest → Read top S s p left most a tokens rest
-read_as top R S r s to same p left most a tokens rest x = record {
-  used = x.used;
-  cut = x.cut;
-  spelled = to p a x.used x.spelled;
-  again = λ q depth bound later larger first. let y = x.again q depth bound later larger first in (y.0, sym (same q depth bound (x.used ++ later)) ∙ y.1);
-}
-
-stuck_as : {P A : Type 0} (top : ℕ) (R S : Spelling P A) (r s : Reader P A) → ((p : P) (a : A) (tokens : Kinds) → R p a tokens → S p a tokens)
-    → ((p : P) (left most : ℕ) (tokens : Kinds) → r p left most tokens ≡ s p left most tokens)
-    → (p : P) (left most : ℕ) (tokens rest : Kinds) → Stuck top R r p left most tokens rest → Stuck top S s p left most tokens rest
-stuck_as top R S r s to same p left most tokens rest x = record {
-  front = x.front;
-  more = x.more;
-  value = x.value;
-  cut = x.cut;
-  spelled = to p x.value (x.front ++ x.more) x.spelled;
-  again = λ q depth bound later larger first. sym (same q depth bound (x.front ++ later)) ∙ x.again q depth bound later larger first;
-}
 
 -- another relation of the same words, with another reader that gives the same, and less that may follow
 pub convert : {P A : Type 0} {top slack : ℕ} {R S : Spelling P A} {F G : Option TokenKind → Type 0} {r s : Reader P A} → IsReader top slack R F r
     → ((p : P) (a : A) (tokens : Kinds) → R p a tokens → S p a tokens) → ((p : P) (a : A) (tokens : Kinds) → S p a tokens → R p a tokens)
     → ((first : Option TokenKind) → G first → F first)
     → ((p : P) (left most : ℕ) (tokens : Kinds) → r p left most tokens ≡ s p left most tokens) → IsReader top slack S G s
-convert {top = top} {R = R} {S = S} {r = r} {s = s} reads to from ends same = record {
+convert {P = P} {top = top} {S = S} {s = s} reads to from ends same = record {
   some = λ p. let x = reads.some p in (x.0, x.1, to p x.0 x.1 x.2);
   complete = λ p left most a tokens after fits x e. sym (same p left most (tokens ++ after)) ∙ reads.complete p left most a tokens after fits (from p a tokens x) (ends (first_of after) e);
-  sound = λ p left most a tokens rest fits is. read_as top R S r s to same p left most a tokens rest (reads.sound p left most a tokens rest fits (same p left most tokens ∙ is));
-  stuck = λ p left most tokens rest fits is. stuck_as top R S r s to same p left most tokens rest (reads.stuck p left most tokens rest fits (same p left most tokens ∙ is));
+  reads = λ p left most tokens fits. subst (λ result. ReadsWithin top S s p left most tokens result) (same p left most tokens)
+      (reads_as (S p) Anything (λ (x : Others P top left most). s x.0 x.1 x.2) (to p) (λ rest e. e) (λ x. (x, λ later. sym (same x.0 x.1 x.2 later)))
+      (reads.reads p left most tokens fits));
 }
 
 -- ---- no token
@@ -292,14 +175,10 @@ pure_complete f p c tokens after pure = refl
 
 -- the reader that takes nothing
 pub reads_pure : {P C : Type 0} {top slack : ℕ} (F : Option TokenKind → Type 0) (f : P → C) → IsReader top slack (Pure f) F (λ p left most tokens. Ok (f p, tokens))
-reads_pure {C = C} F f = record {
+reads_pure F f = record {
   some = λ p. (f p, [], pure);
   complete = λ p left most a tokens after fits x e. pure_complete f p a tokens after x;
-  sound = λ p left most a tokens rest fits is.
-      let same : Path (C × Kinds) (f p, tokens) (a, rest) = ok_once _ _ is in
-      let value : f p ≡ a = ap (λ t. t.0) same in
-      record { used = []; cut = ap (λ t. t.1) same; spelled = subst (λ v. Pure f p v []) value pure; again = λ q depth bound later larger first. (f q, refl) };
-  stuck = λ p left most tokens rest fits is. absurd (ok_or_err _ _ is);
+  reads = λ p left most tokens fits. reads_none (f p) tokens pure tt (λ x later same. (f x.0, refl));
 }
 
 -- ---- one of two, by the token that comes first
@@ -311,11 +190,6 @@ pub data Or {P A : Type 0} (R S : Spelling P A) (p : P) (a : A) (tokens : Kinds)
 -- the reader of one of two kinds, by a test of the tokens ahead
 abbrev pub choosing : {P A : Type 0} → (Kinds → Bool) → Reader P A → Reader P A → Reader P A
 choosing test r s p left most tokens = if test tokens then r p left most tokens else s p left most tokens
-
--- which of two the test chooses
-chosen : {A : Type 0} (test : Bool) (x y : A) → ((test ≡ true) × ((if test then x else y) ≡ x)) ⊎ ((test ≡ false) × ((if test then x else y) ≡ y))
-chosen true x y = inl (refl, refl)
-chosen false x y = inr (refl, refl)
 
 -- what is spelled in one of two ways is read
 choice_complete : {P A : Type 0} (top slack : ℕ) (R S : Spelling P A) (F : Option TokenKind → Type 0) (r s : Reader P A) (test : Kinds → Bool)
@@ -333,60 +207,16 @@ choice_complete top slack R S F r s test first second yes_if no_if p left most a
 abbrev pub IsLocal : (Kinds → Bool) → Type 0
 IsLocal test = (one other : Kinds) → first_of one ≡ first_of other → test one ≡ test other
 
--- the test sees the same where the token that comes first is the same
-tested_again : (test : Kinds → Bool) (value : Bool) (tokens used later rest : Kinds) → IsLocal test → tokens ≡ used ++ rest → test tokens ≡ value → first_of later ≡ first_of rest
-    → test (used ++ later) ≡ value
-tested_again test value tokens used later rest is_local cut is same = is_local (used ++ later) (used ++ rest) (first_of-append used later rest same) ∙ ap test (sym cut) ∙ is
-
--- what is read in one of two ways is spelled
-choice_sound : {P A : Type 0} (top slack : ℕ) (R S : Spelling P A) (F : Option TokenKind → Type 0) (r s : Reader P A) (test : Kinds → Bool)
-    → IsReader top slack R F r → IsReader top slack S F s → IsLocal test
-    → (p : P) (left most : ℕ) (a : A) (tokens rest : Kinds) → Fits top slack left most tokens → choosing test r s p left most tokens ≡ Ok (a, rest)
-    → Read top (Or R S) (choosing test r s) p left most a tokens rest
-choice_sound top slack R S F r s test first second is_local p left most a tokens rest fits is =
-    elim (chosen (test tokens) (r p left most tokens) (s p left most tokens)) [
-      | inl c ↦ let x : Read top R r p left most a tokens rest = first.sound p left most a tokens rest fits (sym c.1 ∙ is) in record {
-        used = x.used;
-        cut = x.cut;
-        spelled = this x.spelled;
-        again = λ q depth bound later larger same. let y = x.again q depth bound later larger same in
-            (y.0, rw (tested_again test true tokens x.used later rest is_local x.cut c.0 same) y.1);
-      }
-      | inr c ↦ let x : Read top S s p left most a tokens rest = second.sound p left most a tokens rest fits (sym c.1 ∙ is) in record {
-        used = x.used;
-        cut = x.cut;
-        spelled = other x.spelled;
-        again = λ q depth bound later larger same. let y = x.again q depth bound later larger same in
-            (y.0, rw (tested_again test false tokens x.used later rest is_local x.cut c.0 same) y.1);
-      }
-    ]
-
--- where neither is read, words of one of the two begin so
-choice_stuck : {P A : Type 0} (top slack : ℕ) (R S : Spelling P A) (F : Option TokenKind → Type 0) (r s : Reader P A) (test : Kinds → Bool)
-    → IsReader top slack R F r → IsReader top slack S F s → IsLocal test
-    → (p : P) (left most : ℕ) (tokens rest : Kinds) → Fits top slack left most tokens → choosing test r s p left most tokens ≡ Err rest
-    → Stuck top (Or R S) (choosing test r s) p left most tokens rest
-choice_stuck top slack R S F r s test first second is_local p left most tokens rest fits is =
-    elim (chosen (test tokens) (r p left most tokens) (s p left most tokens)) [
-      | inl c ↦ let x : Stuck top R r p left most tokens rest = first.stuck p left most tokens rest fits (sym c.1 ∙ is) in record {
-        front = x.front;
-        more = x.more;
-        value = x.value;
-        cut = x.cut;
-        spelled = this x.spelled;
-        again = λ q depth bound later larger same.
-            rw (tested_again test true tokens x.front later rest is_local x.cut c.0 same) (x.again q depth bound later larger same);
-      }
-      | inr c ↦ let x : Stuck top S s p left most tokens rest = second.stuck p left most tokens rest fits (sym c.1 ∙ is) in record {
-        front = x.front;
-        more = x.more;
-        value = x.value;
-        cut = x.cut;
-        spelled = other x.spelled;
-        again = λ q depth bound later larger same.
-            rw (tested_again test false tokens x.front later rest is_local x.cut c.0 same) (x.again q depth bound later larger same);
-      }
-    ]
+-- what the chosen one of two readers gives
+choice_reads : {P A : Type 0} (top left most : ℕ) (R S : Spelling P A) (r s : Reader P A) (test : Kinds → Bool) → IsLocal test → (p : P) (tokens : Kinds) (chosen : Bool) → test tokens ≡ chosen
+    → ReadsWithin top R r p left most tokens (r p left most tokens) → ReadsWithin top S s p left most tokens (s p left most tokens)
+    → ReadsWithin top (Or R S) (choosing test r s) p left most tokens (if chosen then r p left most tokens else s p left most tokens)
+choice_reads {P = P} top left most R S r s test is_local p tokens true is first second =
+    reads_where (λ (x : Others P top left most). choosing test r s x.0 x.1 x.2) (λ x. (x, λ later same. rw (is_local later tokens same ∙ is) refl))
+    (reads_as (Or R S p) Anything (λ (x : Others P top left most). r x.0 x.1 x.2) (λ a used x. this x) (λ rest e. e) (λ x. (x, λ later. refl)) first)
+choice_reads {P = P} top left most R S r s test is_local p tokens false is first second =
+    reads_where (λ (x : Others P top left most). choosing test r s x.0 x.1 x.2) (λ x. (x, λ later same. rw (is_local later tokens same ∙ is) refl))
+    (reads_as (Or R S p) Anything (λ (x : Others P top left most). s x.0 x.1 x.2) (λ a used x. other x) (λ rest e. e) (λ x. (x, λ later. refl)) second)
 
 -- one of two readers, where the test tells their words apart
 pub choose : {P A : Type 0} {top slack : ℕ} {R S : Spelling P A} {F : Option TokenKind → Type 0} {r s : Reader P A} (test : Kinds → Bool) → IsLocal test
@@ -397,8 +227,7 @@ pub choose : {P A : Type 0} {top slack : ℕ} {R S : Spelling P A} {F : Option T
 choose {top = top} {slack = slack} {R = R} {S = S} {F = F} {r = r} {s = s} test is_local first second yes_if no_if = record {
   some = λ p. let x = first.some p in (x.0, x.1, this x.2);
   complete = choice_complete top slack R S F r s test first second yes_if no_if;
-  sound = choice_sound top slack R S F r s test first second is_local;
-  stuck = choice_stuck top slack R S F r s test first second is_local;
+  reads = λ p left most tokens fits. choice_reads top left most R S r s test is_local p tokens (test tokens) refl (first.reads p left most tokens fits) (second.reads p left most tokens fits);
 }
 
 -- ---- one token
@@ -418,59 +247,20 @@ one_complete : {P A : Type 0} (token : A → TokenKind) (reader : Kinds → Read
     → reader (tokens ++ after) ≡ Ok (a, after)
 one_complete token reader takes p a tokens after (one {a = b}) = takes.takes b after
 
--- the token that is read is the one
-one_sound : {P A : Type 0} (top : ℕ) (token : A → TokenKind) (reader : Kinds → Reading A) → TakesOne token reader → (p : P) (left most : ℕ) (a : A) (tokens rest : Kinds)
-    → reader tokens ≡ Ok (a, rest) → Read top (One token) (λ p left most. reader) p left most a tokens rest
-one_sound top token reader takes p left most a [] rest is = absurd (ok_or_err _ _ (sym is ∙ takes.at_end))
-one_sound {A = A} top token reader takes p left most a (first ∷ tokens) rest is = elim (takes.refuses first) [
+-- what reading one token gives
+one_reads : {P A : Type 0} (top : ℕ) (token : A → TokenKind) (reader : Kinds → Reading A) → TakesOne token reader → (p : P) (left most : ℕ) (tokens : Kinds)
+    → ReadsWithin top (One token) (λ (q : P) (depth bound : ℕ). reader) p left most tokens (reader tokens)
+one_reads {P = P} top token reader takes p left most [] =
+    subst (λ result. ReadsWithin top (One token) (λ (q : P) (depth bound : ℕ). reader) p left most [] result) (sym takes.at_end)
+    (refuses_end takes.sample (token takes.sample ∷ []) one (λ x. takes.at_end))
+one_reads {P = P} top token reader takes p left most (first ∷ tokens) = elim (takes.refuses first) [
   | inl e ↦
-      let same : Path (A × Kinds) (e.0, tokens) (a, rest) = ok_once _ _ (sym (takes.takes e.0 tokens) ∙ ap (λ t. reader (t ∷ tokens)) (sym e.1) ∙ is) in
-      let value : e.0 ≡ a = ap (λ t. t.0) same in
-      let token_is : first ≡ token a = e.1 ∙ ap token value in
-      record {
-        used = first ∷ [];
-        cut = ap (λ t. first ∷ t.1) same;
-        spelled = rw token_is one;
-        again = λ q depth bound later larger same'. (a, rw token_is (takes.takes a later));
-      }
-  | inr refused ↦ absurd (ok_or_err _ _ (sym is ∙ refused tokens))
-]
-
--- a token that is refused is refused again
-refused_again : {A : Type 0} (reader : Kinds → Reading A) (tokens rest later : Kinds) → reader [] ≡ Err [] → tokens ≡ rest
-    → ((first : TokenKind) (rest : Kinds) → tokens ≡ first ∷ rest → (rest : Kinds) → reader (first ∷ rest) ≡ Err (first ∷ rest)) → first_of later ≡ first_of rest
-    → reader later ≡ Err later
-refused_again reader tokens [] [] at_end cut refused same = at_end
-refused_again reader tokens [] (token ∷ later) at_end cut refused same = absurd (some_or_none _ same)
-refused_again reader tokens (first ∷ rest) [] at_end cut refused same = absurd (some_or_none _ (sym same))
-refused_again reader tokens (first ∷ rest) (token ∷ later) at_end cut refused same = let head : token ≡ first = cc in rw head (refused first rest cut later)
-
--- where the token is refused, another one could stand there
-one_stuck : {P A : Type 0} (top : ℕ) (token : A → TokenKind) (reader : Kinds → Reading A) → TakesOne token reader → (p : P) (left most : ℕ) (tokens rest : Kinds)
-    → reader tokens ≡ Err rest → Stuck top (One token) (λ p left most. reader) p left most tokens rest
-one_stuck top token reader takes p left most [] rest is = record {
-  front = [];
-  more = token takes.sample ∷ [];
-  value = takes.sample;
-  cut = err_once _ _ (sym takes.at_end ∙ is);
-  spelled = one;
-  again = λ q depth bound later larger same.
-      refused_again reader [] rest later takes.at_end (err_once _ _ (sym takes.at_end ∙ is)) (λ first more e. absurd cc) same;
-}
-one_stuck top token reader takes p left most (first ∷ tokens) rest is = elim (takes.refuses first) [
-  | inl e ↦ absurd (ok_or_err _ _ (sym (takes.takes e.0 tokens) ∙ ap (λ t. reader (t ∷ tokens)) (sym e.1) ∙ is))
+      let read = λ (rest : Kinds). ap (λ t. reader (t ∷ rest)) e.1 ∙ takes.takes e.0 rest in
+      subst (λ result. ReadsWithin top (One token) (λ (q : P) (depth bound : ℕ). reader) p left most (first ∷ tokens) result) (sym (read tokens))
+      (reads_token e.0 first tokens (rw e.1 one) (λ x later. (e.0, read later)))
   | inr refused ↦
-      let cut : (first ∷ tokens) ≡ rest = err_once _ _ (sym (refused tokens) ∙ is) in
-      record {
-        front = [];
-        more = token takes.sample ∷ [];
-        value = takes.sample;
-        cut = cut;
-        spelled = one;
-        again = λ q depth bound later larger same.
-            refused_again reader (first ∷ tokens) rest later takes.at_end cut
-            (λ other more e rest. let head : first ≡ other = cc in rw (sym head) (refused rest)) same;
-      }
+      subst (λ result. ReadsWithin top (One token) (λ (q : P) (depth bound : ℕ). reader) p left most (first ∷ tokens) result) (sym (refused tokens))
+      (refuses_token takes.sample (token takes.sample ∷ []) first tokens one (λ x later. refused later))
 ]
 
 -- the reader of one token
@@ -479,8 +269,7 @@ pub reads_one : {P A : Type 0} {top slack : ℕ} (F : Option TokenKind → Type 
 reads_one {top = top} F token reader takes = record {
   some = λ p. (takes.sample, token takes.sample ∷ [], one);
   complete = λ p left most a tokens after fits x e. one_complete token reader takes p a tokens after x;
-  sound = λ p left most a tokens rest fits is. one_sound top token reader takes p left most a tokens rest is;
-  stuck = λ p left most tokens rest fits is. one_stuck top token reader takes p left most tokens rest is;
+  reads = λ p left most tokens fits. one_reads top token reader takes p left most tokens;
 }
 
 -- ---- bounds of the depth
@@ -497,38 +286,23 @@ no_depth top most tokens fits = omega (arith, fits.deep)
 no_larger : (top left most bound : ℕ) → Larger top (suc left) most 0 bound → ⊥
 no_larger top left most bound larger = omega (arith, larger.deep)
 
--- what was read is read again at each greater depth
-again_deeper : {P A : Type 0} (top : ℕ) (R : Spelling P A) (r : Reader P A) (left most : ℕ) (a : A) (p : P) (tokens rest : Kinds)
-    → (x : Read top R (λ p left most. r p (suc left) most) p left most a tokens rest) → (q : P) (depth bound : ℕ) (later : Kinds)
-    → Larger (suc top) (suc left) most depth bound → first_of later ≡ first_of rest → (b : A) × (r q depth bound (x.used ++ later) ≡ Ok (b, later))
-again_deeper top R r left most a p tokens rest x q zero bound later larger same = absurd (no_larger _ _ _ _ larger)
-again_deeper top R r left most a p tokens rest x q (suc depth) bound later larger same = x.again q depth bound later (larger_below _ _ _ _ _ larger) same
-
--- reading stops again at each greater depth
-stuck_deeper : {P A : Type 0} (top : ℕ) (R : Spelling P A) (r : Reader P A) (left most : ℕ) (p : P) (tokens rest : Kinds)
-    → (x : Stuck top R (λ p left most. r p (suc left) most) p left most tokens rest) → (q : P) (depth bound : ℕ) (later : Kinds)
-    → Larger (suc top) (suc left) most depth bound → first_of later ≡ first_of rest → r q depth bound (x.front ++ later) ≡ Err later
-stuck_deeper top R r left most p tokens rest x q zero bound later larger same = absurd (no_larger _ _ _ _ larger)
-stuck_deeper top R r left most p tokens rest x q (suc depth) bound later larger same = x.again q depth bound later (larger_below _ _ _ _ _ larger) same
+-- a reader at a greater depth is one of those a level below
+one_below : {P A : Type 0} (top left most : ℕ) (r : Reader P A) (q : P) (depth bound : ℕ) → Larger (suc top) (suc left) most depth bound
+    → (x : Others P top left most) × ((later : Kinds) → r q depth bound later ≡ r x.0 (suc x.1) x.2 later)
+one_below top left most r q zero bound larger = absurd (no_larger _ _ _ _ larger)
+one_below top left most r q (suc depth) bound larger = ((q, depth, bound, larger_below _ _ _ _ _ larger), λ later. refl)
 
 deeper_complete : {P A : Type 0} (top : ℕ) (R : Spelling P A) (F : Option TokenKind → Type 0) (r : Reader P A) → IsReader top 1 R F (λ p left most. r p (suc left) most)
     → (p : P) (left most : ℕ) (a : A) (tokens after : Kinds) → Fits (suc top) 0 left most tokens → R p a tokens → F (first_of after) → r p left most (tokens ++ after) ≡ Ok (a, after)
 deeper_complete top R F r reads p zero most a tokens after fits x ends = absurd (no_depth _ _ _ fits)
 deeper_complete top R F r reads p (suc left) most a tokens after fits x ends = reads.complete p left most a tokens after (fits_below _ _ _ _ fits) x ends
 
-deeper_sound : {P A : Type 0} (top : ℕ) (R : Spelling P A) (F : Option TokenKind → Type 0) (r : Reader P A) → IsReader top 1 R F (λ p left most. r p (suc left) most)
-    → (p : P) (left most : ℕ) (a : A) (tokens rest : Kinds) → Fits (suc top) 0 left most tokens → r p left most tokens ≡ Ok (a, rest) → Read (suc top) R r p left most a tokens rest
-deeper_sound top R F r reads p zero most a tokens rest fits is = absurd (no_depth _ _ _ fits)
-deeper_sound top R F r reads p (suc left) most a tokens rest fits is =
-    let x = reads.sound p left most a tokens rest (fits_below _ _ _ _ fits) is in
-    record { used = x.used; cut = x.cut; spelled = x.spelled; again = again_deeper top R r left most a p tokens rest x }
-
-deeper_stuck : {P A : Type 0} (top : ℕ) (R : Spelling P A) (F : Option TokenKind → Type 0) (r : Reader P A) → IsReader top 1 R F (λ p left most. r p (suc left) most)
-    → (p : P) (left most : ℕ) (tokens rest : Kinds) → Fits (suc top) 0 left most tokens → r p left most tokens ≡ Err rest → Stuck (suc top) R r p left most tokens rest
-deeper_stuck top R F r reads p zero most tokens rest fits is = absurd (no_depth _ _ _ fits)
-deeper_stuck top R F r reads p (suc left) most tokens rest fits is =
-    let x = reads.stuck p left most tokens rest (fits_below _ _ _ _ fits) is in
-    record { front = x.front; more = x.more; value = x.value; cut = x.cut; spelled = x.spelled; again = stuck_deeper top R r left most p tokens rest x }
+deeper_reads : {P A : Type 0} (top : ℕ) (R : Spelling P A) (F : Option TokenKind → Type 0) (r : Reader P A) → IsReader top 1 R F (λ p left most. r p (suc left) most)
+    → (p : P) (left most : ℕ) (tokens : Kinds) → Fits (suc top) 0 left most tokens → ReadsWithin (suc top) R r p left most tokens (r p left most tokens)
+deeper_reads top R F r reads p zero most tokens fits = absurd (no_depth _ _ _ fits)
+deeper_reads {P = P} top R F r reads p (suc left) most tokens fits =
+    reads_as (R p) Anything (λ (x : Others P (suc top) (suc left) most). r x.0 x.1 x.2) (λ a used x. x) (λ rest e. e) (λ x. one_below top left most r x.0 x.1 x.2 x.3)
+    (reads.reads p left most tokens (fits_below _ _ _ _ fits))
 
 -- one level deeper
 pub deeper : {P A : Type 0} {top : ℕ} {R : Spelling P A} {F : Option TokenKind → Type 0} (r : Reader P A) → IsReader top 1 R F (λ p left most. r p (suc left) most)
@@ -536,8 +310,7 @@ pub deeper : {P A : Type 0} {top : ℕ} {R : Spelling P A} {F : Option TokenKind
 deeper {top = top} {R = R} {F = F} r reads = record {
   some = reads.some;
   complete = deeper_complete top R F r reads;
-  sound = deeper_sound top R F r reads;
-  stuck = deeper_stuck top R F r reads;
+  reads = deeper_reads top R F r reads;
 }
 
 -- no tokens are within no depth
@@ -545,8 +318,7 @@ pub at_no_depth : {P A : Type 0} {R : Spelling P A} {F : Option TokenKind → Ty
 at_no_depth some = record {
   some = some;
   complete = λ p left most a tokens after fits x e. absurd (omega (arith, fits.low, fits.deep));
-  sound = λ p left most a tokens rest fits is. absurd (omega (arith, fits.low, fits.deep));
-  stuck = λ p left most tokens rest fits is. absurd (omega (arith, fits.low, fits.deep));
+  reads = λ p left most tokens fits. absurd (omega (arith, fits.low, fits.deep));
 }
 
 -- where one bound serves as both
@@ -556,40 +328,31 @@ fits_wide top slack left most bound tokens within fits = record { low = within; 
 larger_wide : (top left most depth bound : ℕ) → Larger top left most depth bound → Larger bound most most bound bound
 larger_wide top left most depth bound larger = record { low = omega arith; deep = larger.wide; wide = larger.wide }
 
--- what was read with one bound is read again with greater ones
-wide_sound : {P A : Type 0} (top slack : ℕ) (R : Spelling P A) (F : Option TokenKind → Type 0) (r : Reader P A) → ((top : ℕ) → IsReader top 0 R F r)
-    → (p : P) (left most : ℕ) (a : A) (tokens rest : Kinds) → Fits top slack left most tokens → r p most most tokens ≡ Ok (a, rest)
-    → Read top R (λ p left most. r p most most) p left most a tokens rest
-wide_sound top slack R F r reads p left most a tokens rest fits is =
-    let x : Read most R r p most most a tokens rest = (reads most).sound p most most a tokens rest (fits_wide _ _ _ _ _ _ (omega arith) fits) is in
-    record {
-      used = x.used;
-      cut = x.cut;
-      spelled = x.spelled;
-      again = λ q depth bound later larger same.
-          let y : Read bound R r p most most a tokens rest = (reads bound).sound p most most a tokens rest (fits_wide _ _ _ _ _ _ larger.wide fits) is in
-          let used : y.used ≡ x.used = append_cancel_right y.used x.used rest (sym y.cut ∙ x.cut) in
-          let z = y.again q bound bound later (larger_wide _ _ _ _ _ larger) same in
-          (z.0, ap (λ front. r q bound bound (front ++ later)) (sym used) ∙ z.1);
-    }
+-- tokens before the same rest are the same
+same_front : (tokens front front' rest : Kinds) → tokens ≡ front ++ rest → tokens ≡ front' ++ rest → front' ≡ front
+same_front tokens front front' rest cut cut' = append_cancel_right front' front rest (sym cut' ∙ cut)
 
--- reading stops again with greater ones
-wide_stuck : {P A : Type 0} (top slack : ℕ) (R : Spelling P A) (F : Option TokenKind → Type 0) (r : Reader P A) → ((top : ℕ) → IsReader top 0 R F r)
-    → (p : P) (left most : ℕ) (tokens rest : Kinds) → Fits top slack left most tokens → r p most most tokens ≡ Err rest
-    → Stuck top R (λ p left most. r p most most) p left most tokens rest
-wide_stuck top slack R F r reads p left most tokens rest fits is =
-    let x : Stuck most R r p most most tokens rest = (reads most).stuck p most most tokens rest (fits_wide _ _ _ _ _ _ (omega arith) fits) is in
-    record {
-      front = x.front;
-      more = x.more;
-      value = x.value;
-      cut = x.cut;
-      spelled = x.spelled;
-      again = λ q depth bound later larger same.
-          let y : Stuck bound R r p most most tokens rest = (reads bound).stuck p most most tokens rest (fits_wide _ _ _ _ _ _ larger.wide fits) is in
-          let used : y.front ≡ x.front = append_cancel_right y.front x.front rest (sym y.cut ∙ x.cut) in
-          ap (λ front. r q bound bound (front ++ later)) (sym used) ∙ y.again q bound bound later (larger_wide _ _ _ _ _ larger) same;
-    }
+front_as : {A : Type 0} (reader : Kinds → Reading A) (front front' later : Kinds) (result : Reading A) → front' ≡ front → reader (front' ++ later) ≡ result → reader (front ++ later) ≡ result
+front_as reader front front' later result same is = subst (λ tokens. reader (tokens ++ later) ≡ result) same is
+
+-- what reading with one bound gives, it gives with greater ones
+wide_reads : {P A : Type 0} (top slack : ℕ) (R : Spelling P A) (F : Option TokenKind → Type 0) (r : Reader P A) → ((top : ℕ) → IsReader top 0 R F r)
+    → (p : P) (left most : ℕ) (tokens : Kinds) (result : Reading A) → Fits top slack left most tokens → r p most most tokens ≡ result
+    → ReadsWithin top R (λ p left most. r p most most) p left most tokens result
+wide_reads top slack R F r reads p left most tokens (Ok (a, rest)) fits is =
+    let read = λ (bound : ℕ) (wide : most ≤ bound). reads_ok a rest ((reads bound).reads p most most tokens (fits_wide _ _ _ _ _ _ wide fits)) is in
+    let x = read most (omega arith) in
+    takes_these a x.0 rest tokens x.1 x.2 tt (λ o later same.
+    let y = read o.2 o.3.wide in
+    let z = y.4 (o.0, o.2, o.2, larger_wide _ _ _ _ _ o.3) later same in
+    (z.0, front_as (r o.0 o.2 o.2) x.0 y.0 later (Ok (z.0, later)) (same_front tokens x.0 y.0 rest x.1 y.1) z.1))
+wide_reads top slack R F r reads p left most tokens (Err rest) fits is =
+    let stuck = λ (bound : ℕ) (wide : most ≤ bound). reads_err rest ((reads bound).reads p most most tokens (fits_wide _ _ _ _ _ _ wide fits)) is in
+    let x = stuck most (omega arith) in
+    stops_there x.1 x.0 rest x.2 tokens x.3 x.4 (λ o later same.
+    let y = stuck o.2 o.3.wide in
+    front_as (r o.0 o.2 o.2) x.0 y.0 later (Err later) (same_front tokens x.0 y.0 rest x.3 y.3)
+    (y.5 (o.0, o.2, o.2, larger_wide _ _ _ _ _ o.3) later same))
 
 -- the bound of the tokens bounds the depth too
 pub widely : {P A : Type 0} {top slack : ℕ} {R : Spelling P A} {F : Option TokenKind → Type 0} {r : Reader P A} → ((top : ℕ) → IsReader top 0 R F r)
@@ -597,6 +360,5 @@ pub widely : {P A : Type 0} {top slack : ℕ} {R : Spelling P A} {F : Option Tok
 widely {top = top} {slack = slack} {R = R} {F = F} {r = r} reads = record {
   some = (reads 0).some;
   complete = λ p left most a tokens after fits x e. (reads most).complete p most most a tokens after (fits_wide _ _ _ _ _ _ (omega arith) fits) x e;
-  sound = wide_sound top slack R F r reads;
-  stuck = wide_stuck top slack R F r reads;
+  reads = λ p left most tokens fits. wide_reads top slack R F r reads p left most tokens (r p most most tokens) fits refl;
 }

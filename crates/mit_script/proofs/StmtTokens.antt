@@ -9,7 +9,7 @@ use Rattle.mit_lex.specs.declared.token.TokenKind.TheVariants.{Name, Column, Tex
 use Rattle.mit_lex.specs.declared.symbol.TheConstants as symbol
 use Rattle.mit_lex.specs.declared.keyword.TheConstants as word
 use Rattle.mit_script.specs.Grammar.{Kinds, Listed, single, and_more, SpellsType, SpellsColumn, type_token}
-use Rattle.mit_script.specs.Reading.{Reading, ◌>>=◌, expect_symbol, expect_word, name_at, column_at, text_at, type_at, sees_symbol, sees_word, behind, listed}
+use Rattle.mit_script.specs.Reading.{Reading, ◌>>=◌, expect_symbol, expect_word, name_at, column_at, text_at, type_at, sees_symbol, sees_word, after_next, listed}
 use Rattle.mit_script.proofs.Readers.{first_of, word_local}
 use Rattle.mit_script.proofs.StmtReaders.{Spelling, Reader, IsReader, IsLocal, TakesOne, One, one, reads_one, Bind, both, bind, bind_within, Made, made, make, along, convert, Pure, pure, reads_pure, Or, this, other, choose, deeper, at_no_depth, widely}
 
@@ -150,29 +150,29 @@ tested_twice : {A B : Type 0} (test : Bool) (taken : A × Kinds) (refused : Kind
 tested_twice true taken refused next x = refl
 tested_twice false taken refused next x = refl
 
--- behind a symbol that is seen one reads as behind one that is expected
+-- after a symbol that is seen one reads as after one that is expected
 behind_symbol : {A : Type 0} (wanted : ℕ) (tokens : Kinds) (next : Kinds → Reading A) (x : Reading A)
-    → Path (Reading A) (if sees_symbol wanted tokens then (expect_symbol wanted tokens >>= λ end. next end.1) else x) (if sees_symbol wanted tokens then next (behind tokens) else x)
+    → Path (Reading A) (if sees_symbol wanted tokens then (expect_symbol wanted tokens >>= λ end. next end.1) else x) (if sees_symbol wanted tokens then next (after_next tokens) else x)
 unfolding sees_symbol expect_symbol
 behind_symbol wanted [] next x = refl
 behind_symbol wanted (Symbol place ∷ rest) next x = tested_twice (place == wanted) (tt, rest) (Symbol place ∷ rest) (λ end. next end.1) x
 behind_symbol wanted (_ ∷ rest) next x = refl
 
 behind_word : {A : Type 0} (wanted : ℕ) (tokens : Kinds) (next : Kinds → Reading A) (x : Reading A)
-    → Path (Reading A) (if sees_word wanted tokens then (expect_word wanted tokens >>= λ end. next end.1) else x) (if sees_word wanted tokens then next (behind tokens) else x)
+    → Path (Reading A) (if sees_word wanted tokens then (expect_word wanted tokens >>= λ end. next end.1) else x) (if sees_word wanted tokens then next (after_next tokens) else x)
 unfolding sees_word expect_word
 behind_word wanted [] next x = refl
 behind_word wanted (Keyword place ∷ rest) next x = tested_twice (place == wanted) (tt, rest) (Keyword place ∷ rest) (λ end. next end.1) x
 behind_word wanted (_ ∷ rest) next x = refl
 
--- a keyword, and what is read behind it
+-- a keyword, and what is read after it
 abbrev pub AfterWord : {P A : Type 0} → ℕ → Spelling P A → Spelling P A
 AfterWord wanted R = Bind (WordOf wanted) (λ q. R q.0)
 
 abbrev pub AfterSymbol : {P A : Type 0} → ℕ → Spelling P A → Spelling P A
 AfterSymbol wanted R = Bind (SymbolOf wanted) (λ q. R q.0)
 
--- what is read behind a symbol shows it
+-- what is read after a symbol shows it
 symbol_sees : {P A : Type 0} (wanted : ℕ) (R : Spelling P A) (p : P) (a : A) (tokens after : Kinds) → AfterSymbol wanted R p a tokens → sees_symbol wanted (tokens ++ after) ≡ true
 unfolding sees_symbol
 symbol_sees wanted R p a tokens after (both one x) = eq-eqb wanted wanted refl
@@ -185,7 +185,7 @@ word_sees wanted R p a tokens after (both one x) = eq-eqb wanted wanted refl
 token_room : {P A : Type 0} (slack low : ℕ) (token : A → TokenKind) → slack ≤ low + 1 → (p : P) (a : A) (tokens : Kinds) → One token p a tokens → slack ≤ low + length tokens
 token_room slack low token spare p a tokens one = spare
 
--- what is read behind a token, which leaves room
+-- what is read after a token, which leaves room
 pub after_word : {P A : Type 0} {top slack : ℕ} (low : ℕ) (wanted : ℕ) {R : Spelling P A} {F : Option TokenKind → Type 0} {r : Reader P A} → slack ≤ low + 1 → IsReader top low R F r
     → IsReader top slack (AfterWord wanted R) F (λ p left most tokens. expect_word wanted tokens >>= λ end. r p left most end.1)
 after_word {slack = slack} low wanted spare reads =
@@ -196,20 +196,20 @@ pub after_symbol : {P A : Type 0} {top slack : ℕ} (low : ℕ) (wanted : ℕ) {
 after_symbol {slack = slack} low wanted spare reads =
     bind_within low (reads_one_symbol wanted) (along (λ q. q.0) reads) (token_room slack low (λ u. Symbol wanted) spare) (λ p a c tokens after x e. tt)
 
--- what is behind a symbol, where it is seen, or something else
+-- what is after a symbol, where it is seen, or something else
 choose_symbol : {P A : Type 0} {top slack : ℕ} (low : ℕ) (wanted : ℕ) {R S : Spelling P A} {F : Option TokenKind → Type 0} {r s : Reader P A} → slack ≤ low + 1
     → IsReader top low R F r → IsReader top slack S F s → ((p : P) (a : A) (tokens after : Kinds) → S p a tokens → F (first_of after) → sees_symbol wanted (tokens ++ after) ≡ false)
     → IsReader top slack (Or (AfterSymbol wanted R) S) F
-    (λ p left most tokens. if sees_symbol wanted tokens then r p left most (behind tokens) else s p left most tokens)
+    (λ p left most tokens. if sees_symbol wanted tokens then r p left most (after_next tokens) else s p left most tokens)
 choose_symbol low wanted {R = R} {r = r} {s = s} spare first second unseen =
     convert (choose (sees_symbol wanted) (symbol_local wanted) (after_symbol low wanted spare first) second (symbol_sees wanted R) unseen) (λ p a tokens x. x) (λ p a tokens x. x) (λ next e. e)
     (λ p left most tokens. behind_symbol wanted tokens (r p left most) (s p left most tokens))
 
--- what is behind a keyword, where it is seen, or something else
+-- what is after a keyword, where it is seen, or something else
 pub choose_word : {P A : Type 0} {top slack : ℕ} (low : ℕ) (wanted : ℕ) {R S : Spelling P A} {F : Option TokenKind → Type 0} {r s : Reader P A} → slack ≤ low + 1
     → IsReader top low R F r → IsReader top slack S F s → ((p : P) (a : A) (tokens after : Kinds) → S p a tokens → F (first_of after) → sees_word wanted (tokens ++ after) ≡ false)
     → IsReader top slack (Or (AfterWord wanted R) S) F
-    (λ p left most tokens. if sees_word wanted tokens then r p left most (behind tokens) else s p left most tokens)
+    (λ p left most tokens. if sees_word wanted tokens then r p left most (after_next tokens) else s p left most tokens)
 choose_word low wanted {R = R} {r = r} {s = s} spare first second unseen =
     convert (choose (sees_word wanted) (word_local wanted) (after_word low wanted spare first) second (word_sees wanted R) unseen) (λ p a tokens x. x) (λ p a tokens x. x) (λ next e. e)
     (λ p left most tokens. behind_word wanted tokens (r p left most) (s p left most tokens))
@@ -220,16 +220,16 @@ choose_word low wanted {R = R} {r = r} {s = s} spare first second unseen =
 abbrev pub EndsList : (Option TokenKind → Type 0) → Option TokenKind → Type 0
 EndsList F first = F first × (first_is_symbol symbol.COMMA first ≡ false)
 
--- what stands behind the first item of a list
+-- what stands after the first item of a list
 abbrev ListRest : {P A : Type 0} → Spelling P A → Spelling (P × A) (List A)
 ListRest R = Or (AfterSymbol symbol.COMMA (Made (λ q. Listed (R q.0)) (λ q items. (q.1 ∷ []) ++ items))) (Pure (λ q. q.1 ∷ []))
 
--- an item and what stands behind it are a list
+-- an item and what stands after it are a list
 is_listed : {P A : Type 0} (R : Spelling P A) (p : P) (items : List A) (tokens : Kinds) → Bind R (ListRest R) p items tokens → Listed (R p) items tokens
 is_listed R p items tokens (both x (this (both one (made y)))) = and_more x y
 is_listed R p items tokens (both {a = a} {front = front} x (other pure)) = subst (λ t. Listed (R p) (a ∷ []) t) (sym (append-nil front)) (single x)
 
--- a list is an item and what stands behind it
+-- a list is an item and what stands after it
 list_is : {P A : Type 0} (R : Spelling P A) (p : P) (items : List A) (tokens : Kinds) → Listed (R p) items tokens → Bind R (ListRest R) p items tokens
 list_is R p items tokens (single {item = item} x) = subst (λ t. Bind R (ListRest R) p (item ∷ []) t) (append-nil tokens) (both x (other pure))
 list_is R p items tokens (and_more x y) = both x (this (both one (made y)))

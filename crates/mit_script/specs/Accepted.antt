@@ -28,9 +28,9 @@ pub record Known : Type 0 where
 abbrev pub unset : VarType
 unset = record { scalar = false; cols = [] }
 
-abbrev pub given : Option VarType → VarType
-given None = unset
-given (Some type) = type
+abbrev pub type_or_unset : Option VarType → VarType
+type_or_unset None = unset
+type_or_unset (Some type) = type
 
 -- whether a variable is among the assigned ones
 abbrev pub is_assigned : List Bool → ℕ → Bool
@@ -41,15 +41,15 @@ abbrev pub first_type : Known → ℕ → Option VarType
 first_type known variable = unwrap_or (slice_get known.types variable) None
 
 abbrev pub type_of : Known → ℕ → VarType
-type_of known variable = given (first_type known variable)
+type_of known variable = type_or_unset (first_type known variable)
 
 -- the types of an operator's bags, which are its first arguments
-abbrev pub bags_of : Known → OpSpec → List ℕ → List VarType
-bags_of known operator args = map (type_of known) (take (bag_inputs_of operator) args)
+abbrev pub bag_types : Known → OpSpec → List ℕ → List VarType
+bag_types known operator args = map (type_of known) (take (bag_inputs_of operator) args)
 
 -- the captured variables, which follow the bags
-abbrev pub captured : OpSpec → List ℕ → List ℕ
-captured operator args = drop (bag_inputs_of operator) args
+abbrev pub captured_args : OpSpec → List ℕ → List ℕ
+captured_args operator args = drop (bag_inputs_of operator) args
 
 abbrev pub code_of : Refusal → CheckCode
 code_of too_large = TooLarge
@@ -64,15 +64,15 @@ typed_or_code (Err why) = Err (code_of why)
 -- the type of what an operator gives over its arguments, where the captured ones are scalars
 abbrev pub typed_by : Known → OpSpec → List ℕ → Result VarType Refusal
 typed_by known operator args =
-    typed_as operator (bags_of known operator args)
-    (flat_map (λ variable. (type_of known variable).cols) (captured operator args))
+    typed_as operator (bag_types known operator args)
+    (flat_map (λ variable. (type_of known variable).cols) (captured_args operator args))
 
 -- the same, or the first code against it
 abbrev pub judged : Known → OpSpec → List ℕ → Result VarType CheckCode
 judged known operator args =
     if not (list_all (is_assigned known.assigned) args) then Err Unassigned
-    else if not (list_all (λ variable. (type_of known variable).scalar) (captured operator args)) then Err NotScalar
-    else if nat_lt MAX_CAPTURES (length (captured operator args)) then Err TooLarge
+    else if not (list_all (λ variable. (type_of known variable).scalar) (captured_args operator args)) then Err NotScalar
+    else if nat_lt MAX_CAPTURES (length (captured_args operator args)) then Err TooLarge
     else typed_or_code (typed_by known operator args)
 
 abbrev pub same_truth : Bool → Bool → Bool
@@ -143,14 +143,14 @@ abbrev pub with_assigned : List Bool → Known → Known
 with_assigned assigned known = record known { assigned = assigned }
 
 -- what is assigned at the end of both blocks
-abbrev pub both : List Bool → List Bool → List Bool
-both one other = map (λ pair. pair.0 && pair.1) (zip one other)
+abbrev pub assigned_in_both : List Bool → List Bool → List Bool
+assigned_in_both one other = map (λ pair. pair.0 && pair.1) (zip one other)
 
 -- after the first block of an `if` the second one begins with what was assigned before
 abbrev pub rejoined : List Check → List Bool → Check
 rejoined on_false before one =
     and_then (in_order on_false (with_assigned before one)) (λ other.
-    Ok (with_assigned (both one.assigned other.assigned) other))
+    Ok (with_assigned (assigned_in_both one.assigned other.assigned) other))
 
 -- after the condition of an `if`, and of a `while`
 abbrev pub branched : List Check → List Check → Check
@@ -176,7 +176,7 @@ at_start names = record { assigned = map (λ _. false) names; types = map (λ _.
 
 -- the types of all variables, or the first statement that is refused, with its first code
 abbrev pub checked_body : List (List ℕ) → List Stmt → Result (List VarType) Fault
-checked_body names body = and_then (in_order (map check_of body) (at_start names)) (λ last. Ok (map given last.types))
+checked_body names body = and_then (in_order (map check_of body) (at_start names)) (λ last. Ok (map type_or_unset last.types))
 
 abbrev pub checked : Script → Result (List VarType) Fault
 checked script = checked_body script.names script.body

@@ -1,7 +1,9 @@
 pub mod Trees
+pub mod FormedOnce
 pub mod PrintedTokens
 pub mod Printed
 pub mod PrintsBack
 pub mod Accepted
 pub mod Grammar
 pub mod Reading
+pub mod Execution

@@ -1,6 +1,6 @@
 -- The printed text of a script: one statement a line, its tokens one blank apart.
 use Rattle.std.specs.Prelude.{ℕ, List, [], ◌∷◌, ◌++◌, map, flat_map, codes, slice_get, unwrap_or}
-use Rattle.mit_lex.specs.Written.{written}
+use Rattle.mit_lex.specs.Written.{token_text}
 use Rattle.mit_lex.specs.declared.token.TokenKind.{TokenKind}
 use Rattle.mit_lex.specs.declared.token.TokenKind.TheVariants.{Name, Symbol, Keyword}
 use Rattle.mit_lex.specs.declared.symbol.TheConstants as symbol
@@ -19,10 +19,10 @@ pub data Line : Type 0 where
 
 -- each token as it is written, and a blank after it
 abbrev pub spaced : Kinds → List ℕ
-spaced = flat_map (λ token. written token ++ codes " ")
+spaced = flat_map (λ token. token_text token ++ codes " ")
 
 abbrev pub line_text : Line → List ℕ
-line_text (line_of indent tokens last) = indent ++ spaced tokens ++ written last ++ codes "\n"
+line_text (line_of indent tokens last) = indent ++ spaced tokens ++ token_text last ++ codes "\n"
 
 abbrev pub lines_text : List Line → List ℕ
 lines_text = flat_map line_text

@@ -40,8 +40,8 @@ opening needed = if needed then Symbol symbol.LEFT_PAREN ∷ [] else []
 abbrev pub closing : Bool → Kinds
 closing needed = if needed then Symbol symbol.RIGHT_PAREN ∷ [] else []
 
-abbrev pub enclosed : Bool → Kinds → Kinds
-enclosed needed tokens = opening needed ++ tokens ++ closing needed
+abbrev pub in_parentheses : Bool → Kinds → Kinds
+in_parentheses needed tokens = opening needed ++ tokens ++ closing needed
 
 -- one layer of an expression, with the tokens of each operand in its place; tokens are those where this rank is wanted
 abbrev pub expr_step : List (List ℕ) → List ℕ → Expr-F (ℕ → Kinds) → ℕ → Kinds
@@ -49,8 +49,8 @@ expr_step names captured (expr.Column column) rank = Column column ∷ []
 expr_step names captured (expr.Capture capture) rank = Name (argument_name names captured capture) ∷ []
 expr_step names captured (expr.Lit value) rank = literal_tokens value
 expr_step names captured (expr.Bin operator left right) rank =
-    enclosed (nat_lt (rank_of operator) rank) (left (left_rank operator) ++ operator_token operator ∷ right (right_rank operator))
-expr_step names captured (expr.Not arg) rank = enclosed (nat_lt 2 rank) (Keyword word.NOT ∷ arg 2)
+    in_parentheses (nat_lt (rank_of operator) rank) (left (left_rank operator) ++ operator_token operator ∷ right (right_rank operator))
+expr_step names captured (expr.Not arg) rank = in_parentheses (nat_lt 2 rank) (Keyword word.NOT ∷ arg 2)
 expr_step names captured (expr.Call function arg) rank =
     call_token function ∷ Symbol symbol.LEFT_PAREN ∷ arg 0 ++ Symbol symbol.RIGHT_PAREN ∷ []
 

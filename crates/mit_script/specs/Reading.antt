@@ -1,4 +1,4 @@
--- A device of the proofs: nobody has to believe it. How a script is read from its tokens, from left to right; that what is
+-- Devices of the proofs: nobody has to believe them. How a script is read from its tokens, from left to right; that what is
 -- read is what the grammar spells, and where reading stops, is `laws::reading_law`.
 use Rattle.std.specs.Prelude.{ℕ, zero, suc, ◌-◌, ◌+◌, ◌^◌, pos, neg_ℤ, List, [], ◌∷◌, ◌++◌, length, take_while, Bool, true, false, not, nat_lt, nat_le, ◌==◌, ◌||◌, if◌then◌else◌, Option, Some, None, Result, Ok, Err}
 use Rattle.mit_rows.specs.declared.value.Value.TheVariants as value
@@ -87,9 +87,9 @@ sees_word wanted (Keyword place ∷ rest) = place == wanted
 sees_word wanted _ = false
 
 -- the tokens after the next one
-abbrev pub behind : Kinds → Kinds
-behind [] = []
-behind (token ∷ rest) = rest
+abbrev pub after_next : Kinds → Kinds
+after_next [] = []
+after_next (token ∷ rest) = rest
 
 -- ---- lists: the number bounds the turns, each of which takes a token
 
@@ -99,7 +99,7 @@ with_front items later = later >>= λ read. Ok (items ++ read.0, read.1)
 unfoldable pub listed : {A : Type 0} → (Kinds → Reading A) → ℕ → Kinds → Reading (List A)
 listed item zero tokens = Err tokens
 listed item (suc turns) tokens =
-    item tokens >>= λ first. if sees_symbol symbol.COMMA first.1 then with_front (first.0 ∷ []) (listed item turns (behind first.1)) else Ok (first.0 ∷ [], first.1)
+    item tokens >>= λ first. if sees_symbol symbol.COMMA first.1 then with_front (first.0 ∷ []) (listed item turns (after_next first.1)) else Ok (first.0 ∷ [], first.1)
 
 -- ---- expressions
 
@@ -173,7 +173,7 @@ primary inner number (token ∷ rest) = primary_by inner number token rest
 -- operators of one rank, with an operand before each, and what stands left of the next one
 abbrev pub chain_by : (Expr → Kinds → Reading Expr) → (Kinds → Reading Expr) → Option BinOp → Expr → Kinds → Reading Expr
 chain_by later operand None left tokens = Ok (left, tokens)
-chain_by later operand (Some op) left tokens = operand (behind tokens) >>= λ right. later (expr.Bin op left right.0) right.1
+chain_by later operand (Some op) left tokens = operand (after_next tokens) >>= λ right. later (expr.Bin op left right.0) right.1
 
 unfoldable pub chain_from : (Kinds → Reading Expr) → ℕ → ℕ → Expr → Kinds → Reading Expr
 chain_from operand rank zero left tokens = Err tokens
@@ -190,14 +190,14 @@ alone (Some op) e tokens = Err tokens
 abbrev pub compared : (Kinds → Reading Expr) → Option BinOp → Expr → Kinds → Reading Expr
 compared operand None left tokens = Ok (left, tokens)
 compared operand (Some op) left tokens =
-    operand (behind tokens) >>= λ right. alone (ranked_operator 3 right.1) (expr.Bin op left right.0) right.1
+    operand (after_next tokens) >>= λ right. alone (ranked_operator 3 right.1) (expr.Bin op left right.0) right.1
 
 unfoldable pub comparison : (Kinds → Reading Expr) → Kinds → Reading Expr
 comparison operand tokens = operand tokens >>= λ left. compared operand (ranked_operator 3 left.1) left.0 left.1
 
 unfoldable pub negation : (Kinds → Reading Expr) → (Kinds → Reading Expr) → Kinds → Reading Expr
 negation inner operand tokens =
-    if sees_word word.NOT tokens then (inner (behind tokens) >>= λ e. Ok (expr.Not e.0, e.1)) else operand tokens
+    if sees_word word.NOT tokens then (inner (after_next tokens) >>= λ e. Ok (expr.Not e.0, e.1)) else operand tokens
 
 -- an expression of a rank, over those of the next rank
 abbrev pub layer_at : (Kinds → Reading Expr) → ℕ → ℕ → (Kinds → Reading Expr) → Kinds → Reading Expr
@@ -291,8 +291,8 @@ range_at number most tokens =
 
 unfoldable pub flat_by : (List ℕ → ℕ) → ℕ → Kinds → Reading OpSpec
 flat_by number most tokens =
-    if sees_word word.WORDS tokens then words_at number most (behind tokens)
-    else (if sees_word word.RANGE tokens then range_at number most (behind tokens) else Err tokens)
+    if sees_word word.WORDS tokens then words_at number most (after_next tokens)
+    else (if sees_word word.RANGE tokens then range_at number most (after_next tokens) else Err tokens)
 
 unfoldable pub flat_at : (List ℕ → ℕ) → ℕ → Kinds → Reading OpSpec
 flat_at number most tokens = name_at tokens >>= λ bag. flat_by number most bag.1
@@ -378,7 +378,7 @@ block_at inner tokens = inner tokens >>= λ body. expect_symbol symbol.RIGHT_BRA
 
 unfoldable pub else_at : (Kinds → Reading (List Stmt)) → Kinds → Reading (List Stmt)
 else_at inner tokens =
-    if sees_word word.ELSE tokens then (expect_symbol symbol.LEFT_BRACE (behind tokens) >>= λ opened. block_at inner opened.1) else Ok ([], tokens)
+    if sees_word word.ELSE tokens then (expect_symbol symbol.LEFT_BRACE (after_next tokens) >>= λ opened. block_at inner opened.1) else Ok ([], tokens)
 
 -- after the words `if` and `while`
 unfoldable pub branch : (Kinds → Reading (List Stmt)) → List (List ℕ) → ℕ → Kinds → Reading Stmt
@@ -394,8 +394,8 @@ loop inner names most tokens =
 unfoldable pub statement : (Kinds → Reading (List Stmt)) → List (List ℕ) → ℕ → Kinds → Reading Stmt
 statement inner names most tokens =
     if sees_word word.WRITE tokens then write names most tokens
-    else (if sees_word word.IF tokens then branch inner names most (behind tokens)
-    else (if sees_word word.WHILE tokens then loop inner names most (behind tokens) else assignment names most tokens))
+    else (if sees_word word.IF tokens then branch inner names most (after_next tokens)
+    else (if sees_word word.WHILE tokens then loop inner names most (after_next tokens) else assignment names most tokens))
 
 -- the next token begins a statement
 unfoldable pub begins_statement : Kinds → Bool

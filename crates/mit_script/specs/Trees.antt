@@ -1,6 +1,5 @@
 -- How many statements a script has, and when it is formed.
 use Rattle.std.specs.Prelude.{◌≡◌, ◌≢◌, ◌≤◌, ◌<◌, ℕ, ◌+◌, max, List, [], ◌∷◌, ◌++◌, length, map, sum, flat_map, All, AllPairs, Bool, true, false, nat_le, ◌&&◌}
-use denote.Struct.Props.{props}
 use Rattle.mit_expr.specs.declared.expr.Expr.{Expr}
 use Rattle.mit_expr.specs.declared.expr.Expr.TheFolds.{fold-Expr}
 use Rattle.mit_expr.specs.declared.expr.Expr.TheOpen.{Expr-F}
@@ -111,9 +110,3 @@ variables_of (decides operator args) = args
 -- variables are numbered in the order in which they appear first
 abbrev pub IsNumbered : Script → Type 0
 IsNumbered script = is_in_order 0 (flat_map variables_of (heads_of script)) ≡ true
-
--- a statement is formed in at most one way
-pub formed_once : (variables : ℕ) (head : Head) → IsProp (IsFormedHead variables head)
-formed_once variables (assigns target operator args) = hlevel props
-formed_once variables (writes operator args) = hlevel props
-formed_once variables (decides operator args) = hlevel props

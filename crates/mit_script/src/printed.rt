@@ -1,6 +1,6 @@
 //! The printed text of a script: its statements, one a line.
 ghost use Rattle.std.specs.Prelude.{◌≡◌, ◌∷◌, ◌++◌, [], codes, map, IfOk, OnOk};
-ghost use Rattle.mit_lex.specs.Written.{written};
+ghost use Rattle.mit_lex.specs.Written.{token_text};
 ghost use Rattle.mit_lex.specs.declared.symbol.TheConstants as sign;
 ghost use Rattle.mit_lex.specs.declared.keyword.TheConstants as word;
 ghost use Rattle.mit_lex.specs.declared.token.TokenKind.TheVariants as token;
@@ -20,7 +20,7 @@ use std::alloc::{AllocError, Global};
 
 /// The end of a line: its last token, a symbol.
 fn add_last(text: &mut Vec<u8>, last: u8) -> Result<(), AllocError>
-    ensures { OnOk result (text.new.items ≡ text.old.items ++ written (token.Symbol last) ++ codes "\n") }
+    ensures { OnOk result (text.new.items ≡ text.old.items ++ token_text (token.Symbol last) ++ codes "\n") }
 {
     text.extend_from_slice(symbol_bytes(last))?;
     text.push(b'\n')?;

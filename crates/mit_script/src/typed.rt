@@ -2,22 +2,23 @@
 ghost use Rattle.std.specs.Prelude.{◌≡◌, Ok};
 ghost use denote.Struct.Props.{props};
 ghost use Rattle.mit_script.specs.Accepted.{checked};
-ghost use Rattle.mit_script.specs.Trees.{IsFormed, formed_once};
+ghost use Rattle.mit_script.specs.Trees.{IsFormed};
+ghost use Rattle.mit_script.specs.FormedOnce.{formed_once};
 
 use crate::lists::VarTypes;
 use crate::tree::Script;
 use mit_ops::VarType;
 
-/// Why a statement is refused. Where several hold, the first one here is told.
+/// Why a statement is refused. Where several hold, the first one here is the answer.
 #[derive(Clone, Copy, Debug, PartialEq, Eq)]
 pub enum CheckCode {
     /// An argument, a bag or a captured name, is not assigned on every path before it.
     Unassigned,
     /// A captured name is no scalar.
     NotScalar,
-    /// The operator captures more than 16 scalars.
+    /// The operator captures more than `MAX_CAPTURES` scalars.
     TooLarge,
-    /// The operator names or gives more than 16 columns.
+    /// The operator names or gives more than `MAX_COLUMNS` columns.
     TooManyColumns,
     /// The operator has no type, a condition is no truth value, or a variable is assigned another type than first.
     WrongType,
