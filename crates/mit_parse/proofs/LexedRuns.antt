@@ -7,6 +7,7 @@ use Rattle.std.specs.Str.Lossy.{utf8_valid_len}
 use Rattle.std.proofs.lemmas.Bool.{cases_Bool}
 use Rattle.std.proofs.lemmas.Bool.Decides.{nat_tests}
 use Rattle.mit_lex.specs.Limits.{ends_run, first_too_many, is_too_many, open_after, opens}
+use Rattle.mit_lex.specs.declared.limits.TheConstants.{MAX_OPEN, MAX_RUN, MAX_SCRIPT}
 use Rattle.mit_lex.specs.Tokens.{Scan, lexed, refused_or, scanned, tokens_of}
 use Rattle.mit_lex.specs.declared.token.Token.{Token}
 use Rattle.mit_lex.specs.declared.token.TokenKind.{TokenKind}
@@ -31,8 +32,8 @@ not_full false true other inside few = absurd cc
 not_full false false other inside few = refl
 
 -- where no token is one too many, the runs are short, and so is the first one with the tokens before it
-first_short : (run braces : ℕ) (tokens : List Token) → run ≤ 256 → first_too_many run braces tokens ≡ None
-    → (run + length (run_of (kinds tokens)) ≤ 256) × HasShortRuns (kinds tokens)
+first_short : (run braces : ℕ) (tokens : List Token) → run ≤ MAX_RUN → first_too_many run braces tokens ≡ None
+    → (run + length (run_of (kinds tokens)) ≤ MAX_RUN) × HasShortRuns (kinds tokens)
 unfolding HasShortRuns
 first_short run braces [] few none = (omega arith, tt)
 first_short run braces (token ∷ tokens) few none =
@@ -43,8 +44,8 @@ first_short run braces (token ∷ tokens) few none =
     let later = first_short 0 (open_after braces token.kind) tokens (omega arith) (subst next ends parts.1) in
     (omega (arith, run-ended token.kind (kinds tokens) ends), (omega (arith, run-ended token.kind (kinds tokens) ends), later.1)))
     (λ (inside : ends_run token.kind ≡ false).
-    let full : nat_le 256 run ≡ false = not_full (ends_run token.kind) (nat_le 256 run) (opens token.kind && nat_le 64 braces) inside parts.0 in
-    let limit : run + 1 ≤ 256 = grind (arith, nat_tests, full) in
+    let full : nat_le MAX_RUN run ≡ false = not_full (ends_run token.kind) (nat_le MAX_RUN run) (opens token.kind && nat_le MAX_OPEN braces) inside parts.0 in
+    let limit : run + 1 ≤ MAX_RUN = grind (arith, nat_tests, full) in
     let later = first_short (run + 1) (open_after braces token.kind) tokens limit (subst next inside parts.1) in
     let size = ap (λ (l : Kinds). length l) (run-in token.kind (kinds tokens) inside) in
     (omega (arith, size, later.0), (omega (arith, size, later.0), later.1)))
@@ -70,4 +71,4 @@ pub tokens_short : (text : List ℕ) (tokens : List Token) → tokens_of text �
 unfolding tokens_of
 tokens_short text tokens read =
     (first_short 0 0 tokens (omega arith)
-    (none_many (nat_lt 1048576 (length text)) (is_utf8 text) (scanned 0 0 text) 1048576 (utf8_valid_len text) tokens read)).1
+    (none_many (nat_lt MAX_SCRIPT (length text)) (is_utf8 text) (scanned 0 0 text) MAX_SCRIPT (utf8_valid_len text) tokens read)).1

@@ -6,7 +6,7 @@ use Rattle.mit_expr.specs.declared.expr.Expr.{Expr}
 use Rattle.mit_expr.specs.declared.expr.Expr.TheVariants as expr
 use Rattle.mit_lex.specs.declared.symbol.TheConstants as symbol
 use Rattle.mit_script.specs.Grammar.{Kinds}
-use Rattle.mit_script.specs.Reading.{Reading, behind, begins_statement, chain_from, listed, ranked_operator, sees_symbol, statement, statements, with_front}
+use Rattle.mit_script.specs.Reading.{Reading, after_next, begins_statement, chain_from, listed, ranked_operator, sees_symbol, statement, statements, with_front}
 use Rattle.mit_script.specs.declared.tree.Stmt.{Stmt}
 use Rattle.mit_parse.specs.declared.stop.Stop.{Stop}
 use Rattle.mit_parse.specs.declared.stop.Stop.TheVariants as stop
@@ -21,12 +21,12 @@ regroup front x (Err rest) = refl
 
 pub listed_goes_on : {A : Type 0} (item : Kinds → Reading A) (front : List A) (turns i : ℕ) (tokens : Kinds) (x : A) (after : Kinds) (total : Reading (List A))
     → i < turns → item tokens ≡ Ok (x, after) → sees_symbol symbol.COMMA after ≡ true
-    → with_front front (listed item (turns - i) tokens) ≡ total → with_front (front ++ x ∷ []) (listed item (turns - (i + 1)) (behind after)) ≡ total
+    → with_front front (listed item (turns - i) tokens) ≡ total → with_front (front ++ x ∷ []) (listed item (turns - (i + 1)) (after_next after)) ≡ total
 unfolding listed
 listed_goes_on item front turns i tokens x after total lt h comma so_far =
     let k : turns - i ≡ suc (turns - (i + 1)) = omega arith in
-    let one : with_front front (listed item (turns - i) tokens) ≡ with_front (front ++ x ∷ []) (listed item (turns - (i + 1)) (behind after)) =
-    rw (k, h, comma) (regroup front x (listed item (turns - (i + 1)) (behind after))) in
+    let one : with_front front (listed item (turns - i) tokens) ≡ with_front (front ++ x ∷ []) (listed item (turns - (i + 1)) (after_next after)) =
+    rw (k, h, comma) (regroup front x (listed item (turns - (i + 1)) (after_next after))) in
     sym one ∙ so_far
 
 pub listed_ends : {A : Type 0} (item : Kinds → Reading A) (front : List A) (turns i : ℕ) (tokens : Kinds) (x : A) (after : Kinds) (total : Reading (List A))
@@ -58,7 +58,7 @@ listed_runs_out item front turns i tokens total le so_far =
 -- ---- chains of operators
 
 pub chain_goes_on : (operand : Kinds → Reading Expr) (rank turns i : ℕ) (left : Expr) (tokens : Kinds) (op : BinOp) (right : Expr) (after : Kinds) (total : Reading Expr)
-    → i < turns → ranked_operator rank tokens ≡ Some op → operand (behind tokens) ≡ Ok (right, after)
+    → i < turns → ranked_operator rank tokens ≡ Some op → operand (after_next tokens) ≡ Ok (right, after)
     → chain_from operand rank (turns - i) left tokens ≡ total → chain_from operand rank (turns - (i + 1)) (expr.Bin op left right) after ≡ total
 unfolding chain_from
 chain_goes_on operand rank turns i left tokens op right after total lt found h so_far =
@@ -75,7 +75,7 @@ chain_ends operand rank turns i left tokens total lt found so_far =
     sym so_far ∙ one
 
 pub chain_stops : (e : Stop) (operand : Kinds → Reading Expr) (rank turns i : ℕ) (left : Expr) (tokens : Kinds) (op : BinOp) (total : Reading Expr)
-    → i < turns → ranked_operator rank tokens ≡ Some op → Stops e (operand (behind tokens))
+    → i < turns → ranked_operator rank tokens ≡ Some op → Stops e (operand (after_next tokens))
     → chain_from operand rank (turns - i) left tokens ≡ total → Stops e total
 unfolding chain_from
 chain_stops stop.NoMemory operand rank turns i left tokens op total lt found h so_far = tt

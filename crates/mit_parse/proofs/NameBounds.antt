@@ -7,6 +7,7 @@ use Rattle.std.proofs.lemmas.List.{get_or-map, length-map}
 use Rattle.std.proofs.lemmas.List.Elements.{All-append, All-cons, All-filter, All-get_or, All-head, All-nil, All-tail}
 use Rattle.std.proofs.lemmas.List.Sums.{count_by-le-length, length-filter}
 use Rattle.mit_lex.specs.Valid.{IsToken, is_word}
+use Rattle.mit_lex.specs.declared.limits.TheConstants.{MAX_RUN, MAX_SCRIPT}
 use Rattle.mit_lex.specs.declared.token.Token.{Token}
 use Rattle.mit_lex.specs.declared.token.TokenKind.{TokenKind}
 use Rattle.mit_lex.specs.declared.token.TokenKind.TheVariants.{Name}
@@ -32,7 +33,7 @@ length-each_once (word ∷ words) =
     omega (arith, length-each_once words, length-filter other (each_once words), count_by-le-length other (each_once words))
 
 -- the names that are captured in a run
-pub captured-few : (bags : ℕ) (run : Kinds) → length run ≤ 256 → length (each_once (drop bags (names_in run))) ≤ 65536
+pub captured-few : (bags : ℕ) (run : Kinds) → length run ≤ MAX_RUN → length (each_once (drop bags (names_in run))) ≤ MAX_RUN
 captured-few bags run few =
     omega (arith, length-each_once (drop bags (names_in run)), length-drop bags (names_in run), length-names_in run)
 
@@ -61,8 +62,8 @@ each_once-short (word ∷ words) short =
     (All-filter _ IsShortName (each_once words) (each_once-short words (All-tail IsShortName word words short)))
 
 -- the names of a script's variables are few and short
-pub variables-bounded : (tokens : List Token) → length tokens ≤ 1048576 → All (λ token. IsToken token.kind) tokens
-    → (length (each_once (names_in (kinds tokens))) ≤ 1048576) × All IsShortName (each_once (names_in (kinds tokens)))
+pub variables-bounded : (tokens : List Token) → length tokens ≤ MAX_SCRIPT → All (λ token. IsToken token.kind) tokens
+    → (length (each_once (names_in (kinds tokens))) ≤ MAX_SCRIPT) × All IsShortName (each_once (names_in (kinds tokens)))
 variables-bounded tokens few valid = (
   omega (arith, length-each_once (names_in (kinds tokens)), length-names_in (kinds tokens), length-map tokens (λ (token : Token). token.kind)),
   each_once-short (names_in (kinds tokens)) (names_in-short tokens valid),

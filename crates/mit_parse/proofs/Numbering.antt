@@ -166,7 +166,7 @@ numbers-more before so_far names words i word number lt is e =
     rw (e, is, words-more words i word lt, map_push (number_in names) (words_of (take i words)) (get_or words i word).now)
     (append_assoc before (map (number_in names) (words_of (take i words))) (number_in names (get_or words i word).now ∷ []))
 
--- the words behind the first so many, and the first so many
+-- the words after the first so many, and the first so many
 pub past-words : (count : ℕ) (words past : List (Bor (List ℕ))) (names : List (List ℕ)) → past ≡ drop count words → words_of words ≡ names
     → words_of past ≡ drop count names
 past-words count words past names is e = rw (is, ← e) (sym (drop-map (λ word. word.now) count words))
@@ -175,12 +175,12 @@ pub first-words : (count : ℕ) (words first : List (Bor (List ℕ))) (names : L
     → words_of first ≡ take count names
 first-words count words first names is e = rw (is, ← e) (sym (take-map (λ word. word.now) count words))
 
--- the words behind the bags of a run, each once, are the captured names
+-- the words after the bags of a run, each once, are the captured names
 pub captured-words : (names : List (List ℕ)) (words slice past : List (Bor (List ℕ))) (bags count : ℕ) (ahead run : Kinds) → names ≡ each_once (words_of past)
     → past ≡ drop bags slice → slice ≡ words → words_of words ≡ names_in ahead → ahead ≡ run → bags ≡ count → names ≡ captured_in count run
 captured-words names words slice past bags count ahead run once cut same read front counted =
-    let behind = past-words bags words past (names_in ahead) (cut ∙ ap (λ (list : List (Bor (List ℕ))). drop bags list) same) read in
-    rw (← counted, ← front) (once ∙ ap each_once behind)
+    let after = past-words bags words past (names_in ahead) (cut ∙ ap (λ (list : List (Bor (List ℕ))). drop bags list) same) read in
+    rw (← counted, ← front) (once ∙ ap each_once after)
 
 drop-next : (tokens : List Token) (i : ℕ) (token : Token) → i < length tokens → drop i tokens ≡ get_or tokens i token ∷ drop (suc i) tokens
 drop-next [] i token lt = absurd (omega (arith, lt))

@@ -1,52 +1,32 @@
 -- Where a text is refused whose tokens stop being read.
-use Rattle.std.proofs.Common.{◌≡◌, ℕ, ◌-◌, List, [], ◌∷◌, ◌++◌, length, drop, Result, Ok, Err, refl, sym, ap, subst, ◌∙◌, ◌⊎◌, inl, inr, arith, length-append}
+use Rattle.std.proofs.Common.{◌≡◌, ℕ, ◌-◌, List, ◌++◌, length, take, drop, Result, Ok, Err, refl, sym, ap, subst, ◌∙◌, ◌⊎◌, inl, inr}
 use Rattle.std.specs.Prelude.{All, MatchResult}
-use Rattle.std.proofs.Math.Seq.{drop-append_seam}
-use Rattle.std.proofs.lemmas.List.{length-map}
+use Rattle.std.proofs.lemmas.List.{drop-map, length-map, take-append-drop}
 use Rattle.std.proofs.lemmas.List.Elements.{All-map}
 use Rattle.mit_lex.specs.Tokens.{tokens_of}
 use Rattle.mit_lex.specs.Valid.{IsToken}
 use Rattle.mit_lex.specs.declared.token.Token.{Token}
-use Rattle.mit_script.specs.Grammar.{CanGoOn, IsRefused, IsSpelled, Kinds, Spells, StopsBefore, kinds}
+use Rattle.mit_script.specs.Grammar.{IsSpelled, Kinds, Spells, StopsBefore, kinds}
 use Rattle.mit_script.specs.PrintsBack.{CanBeSpelled}
 use Rattle.mit_script.specs.Reading.{read_script}
 use Rattle.mit_script.specs.declared.tree.Script.{Script}
+use Rattle.mit_parse.proofs.OneReading.{end_is}
 use Rattle.mit_parse.specs.Places.{IsRefusedAt, before, no_tokens, start_of}
-
--- tokens, cut where their kinds are
-record Cut (tokens : List Token) (front rest : Kinds) : Type 0 where
-  first : List Token
-  left : List Token
-  whole : tokens ≡ first ++ left
-  first_is : kinds first ≡ front
-  left_is : kinds left ≡ rest
-
-cut_at : (tokens : List Token) (front rest : Kinds) → kinds tokens ≡ front ++ rest → Cut tokens front rest
-cut_at tokens [] rest e = record { first = []; left = tokens; whole = refl; first_is = refl; left_is = e }
-cut_at [] (kind ∷ front) rest e = absurd cc
-cut_at (token ∷ tokens) (kind ∷ front) rest e =
-    let same : kinds tokens ≡ front ++ rest = cc in
-    let head : token.kind ≡ kind = cc in
-    let cut = cut_at tokens front rest same in
-    record { first = token ∷ cut.first; left = cut.left; whole = ap (λ (l : List Token). token ∷ l) cut.whole; first_is = rw (head, cut.first_is) refl; left_is = cut.left_is }
-
-last_is : (first left : List Token) (count : ℕ) → length left ≡ count → drop (length (first ++ left) - count) (first ++ left) ≡ left
-last_is first left count size =
-    let at : length (first ++ left) - count ≡ length first = omega (arith, size, length-append first left) in
-    rw at (drop-append_seam first left)
 
 -- the place of a refusal, by the tokens that are left
 place_is : (text : List ℕ) (tokens : List Token) (rest : Kinds) → tokens_of text ≡ Ok tokens → StopsBefore (kinds tokens) rest
     → IsRefusedAt text (start_of text (drop (length tokens - length rest) tokens))
 place_is text tokens rest found stops =
-    let cut = cut_at tokens stops.front rest stops.cut in
-    let count : length cut.left ≡ length rest = sym (length-map cut.left (λ (t : Token). t.kind)) ∙ ap (λ (k : Kinds). length k) cut.left_is in
-    let left : drop (length tokens - length rest) tokens ≡ cut.left =
-    ap (λ (l : List Token). drop (length l - length rest) l) cut.whole ∙ last_is cut.first cut.left (length rest) count in
-    let refused : IsRefused (kinds cut.first) (kinds cut.left) =
-    subst (λ (f : Kinds). IsRefused f (kinds cut.left)) (sym cut.first_is) (subst (λ (l : Kinds). IsRefused stops.front l) (sym cut.left_is) stops.refused) in
-    subst (λ (l : List Token). IsRefusedAt text (start_of text l)) (sym left)
-    (before cut.first cut.left (found ∙ ap (λ (l : List Token). Ok l) cut.whole) (subst CanGoOn (sym cut.first_is) stops.goes_on) refused)
+    let count = length tokens - length rest in
+    let first = take count tokens in
+    let left = drop count tokens in
+    let whole : tokens ≡ first ++ left = sym (take-append-drop count tokens) in
+    let size : length (kinds tokens) ≡ length tokens = length-map tokens (λ (token : Token). token.kind) in
+    let left_is : kinds left ≡ rest =
+    sym (drop-map (λ (token : Token). token.kind) count tokens) ∙ ap (λ (n : ℕ). drop (n - length rest) (kinds tokens)) (sym size)
+    ∙ rw stops.cut (end_is stops.front rest) in
+    before first left (found ∙ ap (λ (l : List Token). Ok l) whole)
+    (subst (λ (k : Kinds). StopsBefore (kinds (first ++ left)) k) (sym left_is) (subst (λ (l : List Token). StopsBefore (kinds l) rest) whole stops))
 
 -- where reading stopped, a text is refused at the place of the first token left
 pub refused_place : (text : List ℕ) (tokens : List Token) (rest : Kinds) (outcome : Result Script Kinds) (place : ℕ) → tokens_of text ≡ Ok tokens → outcome ≡ Err rest

@@ -1,3 +1,4 @@
+pub mod Forms
 pub mod Gives
 pub mod Places
 pub mod Runs

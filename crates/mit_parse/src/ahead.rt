@@ -1,6 +1,7 @@
 //! The tokens that are not read yet.
 ghost use Rattle.std.specs.Prelude.{◌≡◌, ◌≤◌, ◌∷◌, [], length, MatchOption};
 ghost use Rattle.mit_lex.specs.Limits.{ends_run};
+ghost use Rattle.mit_lex.specs.declared.limits.TheConstants.{MAX_RUN};
 ghost use Rattle.mit_script.specs.Grammar.{kinds};
 ghost use Rattle.mit_script.specs.Reading.{run_of};
 ghost use Rattle.mit_parse.specs.Runs.{HasShortRuns};
@@ -54,7 +55,7 @@ impl<'a> Ahead<'a> {
     /// The run at the front.
     pub(crate) fn run(&self) -> &'a [Token]
         ensures kinds { kinds result.now ≡ run_of self.now }
-        ensures few { length (run_of self.now) ≤ 256 }
+        ensures few { length (run_of self.now) ≤ MAX_RUN }
     {
         run_in(self.tokens)
     }

@@ -6,6 +6,7 @@ ghost use Rattle.mit_script.specs.Reading as spec;
 ghost use Rattle.mit_parse.specs.Gives.{Gives};
 
 use crate::ahead::Ahead;
+use crate::beside::beside;
 use crate::names::CapturedNames;
 use crate::operators::{binary, call_of_word, negated, ranked_operator};
 use crate::stop::Stop;
@@ -200,7 +201,8 @@ fn comparison<'a>(
     let Some(op) = ranked_operator(COMPARISON, &rest) else {
         return Ok((left, rest));
     };
-    let (right, rest) = ranked(alloc, captured, depth, below, after_next(rest))?;
+    let operand = ranked(alloc, captured, depth, below, after_next(rest));
+    let (left, (right, rest)) = beside(left, operand)?;
     if ranked_operator(COMPARISON, &rest).is_some() {
         return Err(Stop::Refused(rest));
     }

@@ -2,6 +2,7 @@
 #![tactic(auto)]
 
 mod ahead;
+mod beside;
 mod expr;
 pub mod laws;
 mod lists;

@@ -1,6 +1,6 @@
 //! Lists with commas between their items.
-ghost use Rattle.std.specs.Prelude.{◌≡◌};
-ghost use Rattle.mit_script.specs.Grammar.{number_in};
+ghost use Rattle.mit_script.specs.Grammar.{Kinds, number_in};
+ghost use Rattle.mit_script.specs.Reading.{Reading};
 ghost use Rattle.mit_script.specs.Reading as spec;
 ghost use Rattle.mit_parse.specs.Gives.{Gives, GivesAs};
 
@@ -15,62 +15,80 @@ use mit_ops::{ColTypes, Columns, Exprs};
 use mit_rows::ColType;
 use std::alloc::Global;
 
-/// One type or more.
-fn listed_types(
-    alloc: Global,
-    turns: usize,
-    tokens: Ahead<'_>,
-) -> Result<(Vec<ColType>, Ahead<'_>), Stop<'_>>
-    ensures { GivesAs (λ x. (x.0.items, x.1)) result (spec.listed spec.type_at turns tokens.entry) }
-{
-    let mut items = Vec::new(alloc);
-    let mut rest = tokens;
-    for _ in 0..turns {
-        let (item, after) = next_type(rest)?;
-        items.push(item)?;
-        if !sees_symbol(symbol::COMMA, &after) {
-            return Ok((items, after));
-        }
-        rest = after_next(after);
-    }
-    Err(Stop::Refused(rest))
+/// What reads one item of a list.
+trait ItemReader {
+    /// The item.
+    type Item: Drop;
+
+    ghost item: { Self → Kinds → Reading Self.Item };
+
+    /// The next item, and the tokens after it.
+    fn next<'a>(
+        &self,
+        alloc: Global,
+        tokens: Ahead<'a>,
+    ) -> Result<(Self::Item, Ahead<'a>), Stop<'a>>
+        ensures { Gives result (item self.now tokens.entry) };
 }
 
-/// One column or more.
-fn listed_columns(
-    alloc: Global,
-    turns: usize,
-    tokens: Ahead<'_>,
-) -> Result<(Vec<u8>, Ahead<'_>), Stop<'_>>
-    ensures { GivesAs (λ x. (x.0.items, x.1)) result (spec.listed spec.column_at turns tokens.entry) }
-{
-    let mut items = Vec::new(alloc);
-    let mut rest = tokens;
-    for _ in 0..turns {
-        let (item, after) = next_column(rest)?;
-        items.push(item)?;
-        if !sees_symbol(symbol::COMMA, &after) {
-            return Ok((items, after));
-        }
-        rest = after_next(after);
+/// Reads types.
+#[derive(Clone, Copy)]
+struct TypeReader;
+
+impl ItemReader for TypeReader {
+    type Item = ColType;
+
+    ghost item = { λ _. spec.type_at };
+
+    fn next<'a>(&self, _: Global, tokens: Ahead<'a>) -> Result<(ColType, Ahead<'a>), Stop<'a>> {
+        next_type(tokens)
     }
-    Err(Stop::Refused(rest))
 }
 
-/// One expression or more.
-fn listed_exprs<'a>(
+/// Reads columns.
+#[derive(Clone, Copy)]
+struct ColumnReader;
+
+impl ItemReader for ColumnReader {
+    type Item = u8;
+
+    ghost item = { λ _. spec.column_at };
+
+    fn next<'a>(&self, _: Global, tokens: Ahead<'a>) -> Result<(u8, Ahead<'a>), Stop<'a>> {
+        next_column(tokens)
+    }
+}
+
+/// Reads expressions, with these captured names and a bound on the tokens.
+#[derive(Clone, Copy)]
+struct ExpressionReader<'c> {
+    captured: &'c CapturedNames<'c>,
+    most: usize,
+}
+
+impl<'c> ItemReader for ExpressionReader<'c> {
+    type Item = Expr;
+
+    ghost item = { λ reader. spec.any_expression (number_in reader.captured.now) reader.most };
+
+    fn next<'a>(&self, alloc: Global, tokens: Ahead<'a>) -> Result<(Expr, Ahead<'a>), Stop<'a>> {
+        any_expression(alloc, self.captured, self.most, tokens)
+    }
+}
+
+/// One item or more.
+fn listed<'a, R: ItemReader>(
     alloc: Global,
-    captured: &CapturedNames<'_>,
+    reader: &R,
     turns: usize,
     tokens: Ahead<'a>,
-) -> Result<(Vec<Expr>, Ahead<'a>), Stop<'a>>
-    ensures { GivesAs (λ x. (x.0.items, x.1)) result
-        (spec.listed (spec.any_expression (number_in captured.now) turns) turns tokens.entry) }
+) -> Result<(Vec<R::Item>, Ahead<'a>), Stop<'a>>
+    ensures { GivesAs (λ x. (x.0.items, x.1)) result (spec.listed (R.item reader.now) turns tokens.entry) }
 {
     let mut items = Vec::new(alloc);
     let mut rest = tokens;
     for _ in 0..turns {
-        let (item, after) = any_expression(alloc, captured, turns, rest)?;
+        let (item, after) = reader.next(alloc, rest)?;
         items.push(item)?;
         if !sees_symbol(symbol::COMMA, &after) {
             return Ok((items, after));
@@ -90,7 +108,7 @@ pub(crate) fn types_at(
     ensures { Gives result (spec.types_at most tokens.entry) }
 {
     let rest = expect_symbol(symbol::LEFT_PAREN, tokens)?;
-    let (types, rest) = listed_types(alloc, most, rest)?;
+    let (types, rest) = listed(alloc, &TypeReader, most, rest)?;
     let rest = expect_symbol(symbol::RIGHT_PAREN, rest)?;
     Ok((ColTypes::from_vec(types), rest))
 }
@@ -103,11 +121,11 @@ pub(crate) fn columns_at(
 ) -> Result<(Columns, Ahead<'_>), Stop<'_>>
     ensures { Gives result (spec.columns_at most tokens.entry) }
 {
-    let (columns, rest) = listed_columns(alloc, most, tokens)?;
+    let (columns, rest) = listed(alloc, &ColumnReader, most, tokens)?;
     Ok((Columns::from_vec(columns), rest))
 }
 
-/// Expressions in brackets.
+/// ExpressionReader in brackets.
 #[tactic(auto, unfolding(mit_script::specs::Reading::exprs_at))]
 pub(crate) fn exprs_at<'a>(
     alloc: Global,
@@ -118,7 +136,7 @@ pub(crate) fn exprs_at<'a>(
     ensures { Gives result (spec.exprs_at (number_in captured.now) most tokens.entry) }
 {
     let rest = expect_symbol(symbol::LEFT_BRACKET, tokens)?;
-    let (exprs, rest) = listed_exprs(alloc, captured, most, rest)?;
+    let (exprs, rest) = listed(alloc, &ExpressionReader { captured, most }, most, rest)?;
     let rest = expect_symbol(symbol::RIGHT_BRACKET, rest)?;
     Ok((Exprs::from_vec(exprs), rest))
 }

@@ -1,6 +1,7 @@
 //! The names of variables, numbered in the order in which they appear first.
 ghost use Rattle.std.specs.Prelude.{◌≡◌, ◌≤◌, ◌++◌, drop, map, take, All, IfOk, length};
 ghost use Rattle.mit_lex.specs.Valid.{IsToken};
+ghost use Rattle.mit_lex.specs.declared.limits.TheConstants.{MAX_SCRIPT};
 ghost use Rattle.mit_script.specs.Grammar as spec;
 ghost use Rattle.mit_script.specs.Reading as reading;
 ghost use Rattle.mit_script.specs.Grammar.{kinds};
@@ -38,7 +39,8 @@ impl Numbered<'_> {
     }
 }
 
-/// The names of a script's variables, which contracts see as their list: at most 1,048,576 names of 1 to 64 bytes.
+/// The names of a script's variables, which contracts see as their list: no more than a script has bytes, and each of them
+/// a byte or more, and no longer than a word.
 #[derive(Drop)]
 pub(crate) struct VariableNames<'a> {
     numbered: Numbered<'a>,
@@ -46,13 +48,14 @@ pub(crate) struct VariableNames<'a> {
 
 impl<'a> Model for VariableNames<'a> {
     ghost use Rattle.std.specs.Prelude.{List, ℕ, ◌≤◌, All, length};
+    ghost use Rattle.mit_lex.specs.declared.limits.TheConstants.{MAX_SCRIPT as MOST};
     ghost use Rattle.mit_parse.specs.Words.{IsShortName as IsShort};
 
     ghost Value = { List (List ℕ) };
 
     ghost view = { λ v. v.numbered };
 
-    ghost invariant = { λ v. (length v.numbered ≤ 1048576) × All IsShort v.numbered };
+    ghost invariant = { λ v. (length v.numbered ≤ MOST) × All IsShort v.numbered };
 }
 
 impl VariableNames<'_> {
@@ -71,7 +74,7 @@ impl VariableNames<'_> {
     }
 }
 
-/// The names that an operator captures, which contracts see as their list: at most 65,536.
+/// The names that an operator captures, which contracts see as their list: no more than a run has tokens.
 #[derive(Drop)]
 pub(crate) struct CapturedNames<'a> {
     numbered: Numbered<'a>,
@@ -79,12 +82,13 @@ pub(crate) struct CapturedNames<'a> {
 
 impl<'a> Model for CapturedNames<'a> {
     ghost use Rattle.std.specs.Prelude.{List, ℕ, ◌≤◌, length};
+    ghost use Rattle.mit_lex.specs.declared.limits.TheConstants.{MAX_RUN};
 
     ghost Value = { List (List ℕ) };
 
     ghost view = { λ c. c.numbered };
 
-    ghost invariant = { λ c. length c.numbered ≤ 65536 };
+    ghost invariant = { λ c. length c.numbered ≤ MAX_RUN };
 }
 
 impl CapturedNames<'_> {
@@ -146,7 +150,7 @@ fn each_once<'a>(alloc: Global, words: &[&'a str]) -> Result<Numbered<'a>, Alloc
 
 /// The names of a script's variables.
 pub(crate) fn variables(alloc: Global, tokens: &[Token]) -> Result<VariableNames<'_>, AllocError>
-    requires few { length tokens.now ≤ 1048576 }
+    requires few { length tokens.now ≤ MAX_SCRIPT }
     requires valid { All (λ token. IsToken token.kind) tokens.now }
     ensures { IfOk result (λ names. names ≡ spec.each_once (spec.names_in (kinds tokens.now))) }
 {
@@ -225,6 +229,21 @@ fn add_numbers(
     Ok(())
 }
 
+/// The numbers of these names, and then those of the others.
+fn numbers_of(
+    alloc: Global,
+    names: &VariableNames<'_>,
+    words: &[&str],
+    others: &[&str],
+) -> Result<Args, AllocError>
+    ensures { IfOk result (λ args. args ≡ map (spec.number_in names.now) (words_of words.now ++ words_of others.now)) }
+{
+    let mut numbers = Vec::new(alloc);
+    add_numbers(&mut numbers, names, words)?;
+    add_numbers(&mut numbers, names, others)?;
+    Ok(Args::from_vec(numbers))
+}
+
 /// The arguments of the operator of this run, which takes so many bags.
 pub(crate) fn arguments(
     alloc: Global,
@@ -236,8 +255,6 @@ pub(crate) fn arguments(
 {
     let words = names_in(alloc, run)?;
     let captured = each_once(alloc, past(bags, &words))?;
-    let mut numbers = Vec::new(alloc);
-    add_numbers(&mut numbers, names, first(bags, &words))?;
-    add_numbers(&mut numbers, names, captured.names.as_slice())?;
-    Ok(Args::from_vec(numbers))
+    let others = captured.names.as_slice();
+    numbers_of(alloc, names, first(bags, &words), others)
 }

@@ -2,9 +2,11 @@
 ghost use Rattle.std.specs.Prelude.{◌≡◌};
 ghost use Rattle.mit_script.specs.Grammar.{is_name, number_in};
 ghost use Rattle.mit_script.specs.Reading as spec;
+ghost use Rattle.mit_parse.specs.Forms.{ending_of, form_at};
 ghost use Rattle.mit_parse.specs.Gives.{Gives};
 
 use crate::ahead::Ahead;
+use crate::beside::beside;
 use crate::expr::any_expression;
 use crate::lists::{columns_at, exprs_at, types_at};
 use crate::names::CapturedNames;
@@ -16,6 +18,29 @@ use mit_expr::Expr;
 use mit_lex::{TokenKind, keyword, symbol};
 use mit_ops::{Agg, Flat, OpSpec};
 use std::alloc::Global;
+
+/// Where an operator stands.
+#[derive(Clone, Copy)]
+pub(crate) enum Form {
+    /// On the right side of an assignment.
+    Right,
+    /// In a write.
+    Write,
+    /// In a condition.
+    Condition,
+}
+
+impl Form {
+    /// The symbol that ends its run.
+    pub(crate) fn ending(self) -> u8
+        ensures { result ≡ ending_of self }
+    {
+        match self {
+            Form::Right | Form::Write => symbol::SEMICOLON,
+            Form::Condition => symbol::LEFT_BRACE,
+        }
+    }
+}
 
 /// What a reduction makes of the rows of one key.
 #[tactic(auto, unfolding(mit_script::specs::Reading::agg_at))]
@@ -103,9 +128,9 @@ fn words_at<'a>(
     ensures { Gives result (spec.words_at (number_in captured.now) most tokens.entry) }
 {
     let (expr, rest) = any_expression(alloc, captured, most, tokens)?;
-    let rest = expect_symbol(symbol::COMMA, rest)?;
-    let (separator, rest) = next_text(rest)?;
-    let separator = separator.copy(alloc)?;
+    let (expr, rest) = beside(expr, expect_symbol(symbol::COMMA, rest))?;
+    let (expr, (separator, rest)) = beside(expr, next_text(rest))?;
+    let (expr, separator) = beside(expr, separator.copy(alloc))?;
     let flat = Flat::Words { expr, separator };
     Ok((OpSpec::FlatMap { flat }, rest))
 }
@@ -121,8 +146,8 @@ fn range_at<'a>(
     ensures { Gives result (spec.range_at (number_in captured.now) most tokens.entry) }
 {
     let (from, rest) = any_expression(alloc, captured, most, tokens)?;
-    let rest = expect_symbol(symbol::COMMA, rest)?;
-    let (to, rest) = any_expression(alloc, captured, most, rest)?;
+    let (from, rest) = beside(from, expect_symbol(symbol::COMMA, rest))?;
+    let (from, (to, rest)) = beside(from, any_expression(alloc, captured, most, rest))?;
     let flat = Flat::Range { from, to };
     Ok((OpSpec::FlatMap { flat }, rest))
 }
@@ -201,7 +226,7 @@ fn union_at(tokens: Ahead<'_>) -> Result<(OpSpec, Ahead<'_>), Stop<'_>>
 fn of_bag_at(op: OpSpec, tokens: Ahead<'_>) -> Result<(OpSpec, Ahead<'_>), Stop<'_>>
     ensures { Gives result (spec.of_bag_at op tokens.entry) }
 {
-    let (_, rest) = next_name(tokens)?;
+    let (op, (_, rest)) = beside(op, next_name(tokens))?;
     Ok((op, rest))
 }
 
@@ -294,7 +319,7 @@ fn right_by<'a>(
 
 /// The right side of an assignment.
 #[tactic(auto, unfolding(mit_script::specs::Reading::right_at))]
-pub(crate) fn right_at<'a>(
+fn right_at<'a>(
     alloc: Global,
     captured: &CapturedNames<'_>,
     most: usize,
@@ -312,7 +337,7 @@ pub(crate) fn right_at<'a>(
 
 /// A write, without its `;`.
 #[tactic(auto, unfolding(mit_script::specs::Reading::write_at))]
-pub(crate) fn write_at<'a>(
+fn write_at<'a>(
     alloc: Global,
     captured: &CapturedNames<'_>,
     most: usize,
@@ -329,7 +354,7 @@ pub(crate) fn write_at<'a>(
 
 /// A condition.
 #[tactic(auto, unfolding(mit_script::specs::Reading::condition_at))]
-pub(crate) fn condition_at<'a>(
+fn condition_at<'a>(
     alloc: Global,
     captured: &CapturedNames<'_>,
     most: usize,
@@ -339,4 +364,21 @@ pub(crate) fn condition_at<'a>(
 {
     let (expr, rest) = any_expression(alloc, captured, most, tokens)?;
     Ok((OpSpec::Scalar { expr }, rest))
+}
+
+/// An operator of this form, without the symbol that ends its run.
+pub(crate) fn form_at<'a>(
+    alloc: Global,
+    captured: &CapturedNames<'_>,
+    form: Form,
+    most: usize,
+    tokens: Ahead<'a>,
+) -> Result<(OpSpec, Ahead<'a>), Stop<'a>>
+    ensures { Gives result (form_at form (number_in captured.now) most tokens.entry) }
+{
+    match form {
+        Form::Right => right_at(alloc, captured, most, tokens),
+        Form::Write => write_at(alloc, captured, most, tokens),
+        Form::Condition => condition_at(alloc, captured, most, tokens),
+    }
 }

@@ -2,6 +2,7 @@
 ghost use Rattle.std.specs.Prelude.{◌≡◌, ◌≤◌, ◌-◌, All, Ok, IfOk, IfErr, drop, length};
 ghost use Rattle.mit_lex.specs.Tokens.{tokens_of};
 ghost use Rattle.mit_lex.specs.Valid.{IsToken};
+ghost use Rattle.mit_lex.specs.declared.limits.TheConstants.{MAX_SCRIPT};
 ghost use Rattle.mit_script.specs.Grammar.{IsSpelled};
 ghost use Rattle.mit_script.specs.PrintsBack.{CanBeSpelled};
 ghost use Rattle.mit_script.specs.Trees.{IsFormed, IsNumbered};
@@ -23,7 +24,7 @@ fn last(count: usize, tokens: &[Token]) -> &[Token]
 
 /// Where the first of the tokens that are left starts, and the text's end where none is left.
 fn place_of(text: &[u8], left: &[Token]) -> u32
-    requires { length text.now ≤ 1048576 }
+    requires { length text.now ≤ MAX_SCRIPT }
     ensures { result ≡ start_of text.now left.now }
 {
     match left {
@@ -35,8 +36,8 @@ fn place_of(text: &[u8], left: &[Token]) -> u32
 /// The script that the tokens of a text spell, or the place where the text is refused.
 fn script_of(alloc: Global, text: &[u8], tokens: &[Token]) -> Result<Script, ParseStop>
     requires read { tokens_of text.now ≡ Ok tokens.now }
-    requires few { length tokens.now ≤ 1048576 }
-    requires short { length text.now ≤ 1048576 }
+    requires few { length tokens.now ≤ MAX_SCRIPT }
+    requires short { length text.now ≤ MAX_SCRIPT }
     requires valid { All (λ token. IsToken token.kind) tokens.now }
     ensures spelled { IfOk result (λ script. IsSpelled text.now script) }
     ensures formed { IfOk result IsFormed }

@@ -1,15 +1,18 @@
 //! Statements and scripts.
 ghost use Rattle.std.specs.Prelude.{◌≡◌, ◌≤◌, ◌+◌, All, length};
 ghost use Rattle.mit_lex.specs.Valid.{IsToken};
+ghost use Rattle.mit_lex.specs.declared.limits.TheConstants.{MAX_SCRIPT};
 ghost use Rattle.mit_script.specs.Grammar.{kinds};
 ghost use Rattle.mit_script.specs.Reading as spec;
+ghost use Rattle.mit_parse.specs.Forms.{ending_of, form_at as spec_form_at};
 ghost use Rattle.mit_parse.specs.Gives.{Gives, GivesAs};
 ghost use Rattle.mit_parse.specs.Runs.{HasShortRuns};
 ghost use Rattle.mit_parse.specs.Words.{closed as spec_closed};
 
 use crate::ahead::Ahead;
+use crate::beside::beside;
 use crate::names::{VariableNames, arguments, captured_ahead, variables};
-use crate::right::{condition_at, right_at, write_at};
+use crate::right::{Form, form_at};
 use crate::stop::Stop;
 use crate::tokens::{after_next, expect_symbol, next_name, sees_word};
 use mit_lex::{Token, TokenKind, keyword, symbol};
@@ -33,61 +36,41 @@ fn closed<'a>(
     ensures { Gives result
         (spec_closed ending names.now op (kinds run.now) rest.entry) }
 {
-    let rest = expect_symbol(ending, rest)?;
+    let (op, rest) = beside(op, expect_symbol(ending, rest))?;
     let bags = usize::from(op.bag_inputs());
-    let args = arguments(alloc, names, bags, run)?;
-    Ok(((op, args), rest))
+    let operation = beside(op, arguments(alloc, names, bags, run))?;
+    Ok((operation, rest))
 }
 
-/// The right side of an assignment, with its `;`.
-#[tactic(auto, unfolding(mit_script::specs::Reading::operation, mit_script::specs::Reading::number_ahead))]
-fn right<'a>(
+/// An operator of this form, with the names that it captures.
+#[tactic(auto, unfolding(mit_script::specs::Reading::number_ahead))]
+fn form_ahead<'a>(
+    alloc: Global,
+    form: Form,
+    most: usize,
+    tokens: Ahead<'a>,
+) -> Result<(OpSpec, Ahead<'a>), Stop<'a>>
+    ensures { Gives result (spec_form_at form (spec.number_ahead tokens.entry) most tokens.entry) }
+{
+    let captured = captured_ahead(alloc, &tokens)?;
+    form_at(alloc, &captured, form, most, tokens)
+}
+
+/// An operator of this form with its arguments, up to and with the symbol that ends its run.
+#[tactic(auto, unfolding(mit_script::specs::Reading::operation))]
+fn operation<'a>(
     alloc: Global,
     names: &VariableNames<'_>,
+    form: Form,
     most: usize,
     tokens: Ahead<'a>,
 ) -> Result<(Operation, Ahead<'a>), Stop<'a>>
     ensures { Gives result
-        (spec.operation spec.right_at 1 names.now most tokens.entry) }
+        (spec.operation (spec_form_at form) (ending_of form) names.now most tokens.entry) }
 {
     let run = tokens.run();
-    let captured = captured_ahead(alloc, &tokens)?;
-    let (op, rest) = right_at(alloc, &captured, most, tokens)?;
-    closed(alloc, names, symbol::SEMICOLON, op, run, rest)
-}
-
-/// A write, with its `;`.
-#[tactic(auto, unfolding(mit_script::specs::Reading::operation, mit_script::specs::Reading::number_ahead))]
-fn written<'a>(
-    alloc: Global,
-    names: &VariableNames<'_>,
-    most: usize,
-    tokens: Ahead<'a>,
-) -> Result<(Operation, Ahead<'a>), Stop<'a>>
-    ensures { Gives result
-        (spec.operation spec.write_at 1 names.now most tokens.entry) }
-{
-    let run = tokens.run();
-    let captured = captured_ahead(alloc, &tokens)?;
-    let (op, rest) = write_at(alloc, &captured, most, tokens)?;
-    closed(alloc, names, symbol::SEMICOLON, op, run, rest)
-}
-
-/// A condition, with the `{` after it.
-#[tactic(auto, unfolding(mit_script::specs::Reading::operation, mit_script::specs::Reading::number_ahead))]
-fn condition<'a>(
-    alloc: Global,
-    names: &VariableNames<'_>,
-    most: usize,
-    tokens: Ahead<'a>,
-) -> Result<(Operation, Ahead<'a>), Stop<'a>>
-    ensures { Gives result
-        (spec.operation spec.condition_at 7 names.now most tokens.entry) }
-{
-    let run = tokens.run();
-    let captured = captured_ahead(alloc, &tokens)?;
-    let (op, rest) = condition_at(alloc, &captured, most, tokens)?;
-    closed(alloc, names, symbol::LEFT_BRACE, op, run, rest)
+    let (op, rest) = form_ahead(alloc, form, most, tokens)?;
+    closed(alloc, names, form.ending(), op, run, rest)
 }
 
 /// An assignment.
@@ -102,7 +85,7 @@ fn assignment<'a>(
 {
     let (target, rest) = next_name(tokens)?;
     let rest = expect_symbol(symbol::EQUALS, rest)?;
-    let ((op, args), rest) = right(alloc, names, most, rest)?;
+    let ((op, args), rest) = operation(alloc, names, Form::Right, most, rest)?;
     let target = names.variable(target.as_str());
     Ok((Stmt::Assign { target, op, args }, rest))
 }
@@ -117,7 +100,7 @@ fn write<'a>(
 ) -> Result<(Stmt, Ahead<'a>), Stop<'a>>
     ensures { Gives result (spec.write names.now most tokens.entry) }
 {
-    let ((op, args), rest) = written(alloc, names, most, tokens)?;
+    let ((op, args), rest) = operation(alloc, names, Form::Write, most, tokens)?;
     Ok((Stmt::Write { op, args }, rest))
 }
 
@@ -172,9 +155,10 @@ fn branch<'a>(
     ensures { Gives result
         (spec.branch (spec.statements names.now most left) names.now most tokens.entry) }
 {
-    let ((op, args), rest) = condition(alloc, names, most, tokens)?;
-    let (yes, rest) = block_at(alloc, names, most, left, rest)?;
-    let (no, rest) = else_at(alloc, names, most, left, rest)?;
+    let (condition, rest) = operation(alloc, names, Form::Condition, most, tokens)?;
+    let (condition, (yes, rest)) = beside(condition, block_at(alloc, names, most, left, rest))?;
+    let (before, (no, rest)) = beside((condition, yes), else_at(alloc, names, most, left, rest))?;
+    let ((op, args), yes) = before;
     Ok((Stmt::If { op, args, yes, no }, rest))
 }
 
@@ -190,8 +174,9 @@ fn repeated<'a>(
     ensures { Gives result
         (spec.loop (spec.statements names.now most left) names.now most tokens.entry) }
 {
-    let ((op, args), rest) = condition(alloc, names, most, tokens)?;
-    let (body, rest) = block_at(alloc, names, most, left, rest)?;
+    let (condition, rest) = operation(alloc, names, Form::Condition, most, tokens)?;
+    let (condition, (body, rest)) = beside(condition, block_at(alloc, names, most, left, rest))?;
+    let (op, args) = condition;
     Ok((Stmt::While { op, args, body }, rest))
 }
 
@@ -278,18 +263,28 @@ fn body<'a>(
     Ok(found)
 }
 
+/// The script of these tokens, by the names of its variables.
+fn script_over<'a>(
+    alloc: Global,
+    names: &VariableNames<'_>,
+    tokens: Ahead<'a>,
+) -> Result<Script, Stop<'a>>
+    ensures { Gives result
+        (spec.with_names names.now (spec.ended (spec.statements names.now (length tokens.entry + 1) (length tokens.entry + 1) tokens.entry))) }
+{
+    let body = Items::from_vec(body(alloc, names, tokens)?);
+    let (body, names) = beside(body, names.kept(alloc))?;
+    Ok(Script { body, names })
+}
+
 /// The script of these tokens.
 #[tactic(auto, unfolding(mit_script::specs::Reading::read_script))]
 pub(crate) fn read_script(alloc: Global, tokens: &[Token]) -> Result<Script, Stop<'_>>
-    requires few { length tokens.now ≤ 1048576 }
+    requires few { length tokens.now ≤ MAX_SCRIPT }
     requires valid { All (λ token. IsToken token.kind) tokens.now }
     requires short { HasShortRuns (kinds tokens.now) }
     ensures { Gives result (spec.read_script (kinds tokens.now)) }
 {
     let names = variables(alloc, tokens)?;
-    let body = body(alloc, &names, Ahead::of(tokens))?;
-    Ok(Script {
-        body: Items::from_vec(body),
-        names: names.kept(alloc)?,
-    })
+    script_over(alloc, &names, Ahead::of(tokens))
 }

@@ -137,7 +137,7 @@ pub(crate) fn sees_word(wanted: u8, tokens: &Ahead<'_>) -> bool
 
 /// The tokens after the next one.
 pub(crate) fn after_next(tokens: Ahead<'_>) -> Ahead<'_>
-    ensures { result ≡ spec.behind tokens.entry }
+    ensures { result ≡ spec.after_next tokens.entry }
 {
     match tokens.next() {
         None => tokens,

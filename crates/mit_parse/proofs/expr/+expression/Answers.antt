@@ -1,7 +1,7 @@
 use Rattle.std.proofs.Common.{◌≡◌, ◌∙◌, ◌-◌, Ok, sym, subst}
 use Rattle.std.proofs.lemmas.Result.{err_from_is_err_and}
 use Rattle.mit_script.specs.Grammar.{number_in}
-use Rattle.mit_script.specs.Reading.{behind, chain_from, expression, ranked}
+use Rattle.mit_script.specs.Reading.{after_next, chain_from, expression, ranked}
 use Rattle.mit_parse.specs.Gives.{Stops}
 use Rattle.mit_parse.proofs.Loops.{chain_ends, chain_goes_on, chain_runs_out, chain_stops}
 use Rattle.mit_parse.proofs.expr.+expression.Goals as goal
@@ -31,5 +31,5 @@ chain_from-loop-preserved t c =
     let number = number_in c.args.captured.now in
     let operand = ranked (expression number c.args.depth) number c.args.depth c.args.below in
     let total = chain_from operand (6 - c.args.below) c.args.depth c.args.left c.args.tokens in
-    let read : operand (behind c.loop.rest) ≡ Ok (c.in_ok-right.right, c.in_ok-right.after) = subst (λ tokens. operand tokens ≡ Ok (c.in_ok-right.right, c.in_ok-right.after)) c.after_next.ensures c.in_ok-right.ensures in
+    let read : operand (after_next c.loop.rest) ≡ Ok (c.in_ok-right.right, c.in_ok-right.after) = subst (λ tokens. operand tokens ≡ Ok (c.in_ok-right.right, c.in_ok-right.after)) c.after_next.ensures c.in_ok-right.ensures in
     rw c.in_ok-left.ensures (chain_goes_on operand (6 - c.args.below) c.args.depth c.loop.counter c.loop.left c.loop.rest c.in-Some.op c.in_ok-right.right c.in_ok-right.after total c.loop-test.true (sym c.ranked_operator.ensures ∙ c.in-Some.is) read c.loop.invariant)

@@ -4,34 +4,34 @@ use Rattle.mit_script.specs.Reading.{chain_from, expression, ranked}
 use Rattle.mit_parse.proofs.expr.+expression.Given as goal
 
 abbrev pub decreases-expression : goal.decreases-expression
-decreases-expression l = 64 * l.depth
+decreases-expression l = 40 * l.depth
 
 abbrev pub decreases-enclosed_at : goal.decreases-enclosed_at
-decreases-enclosed_at l = 64 * l.depth + 2
+decreases-enclosed_at l = 40 * l.depth + 2
 
 abbrev pub decreases-called_at : goal.decreases-called_at
-decreases-called_at l = 64 * l.depth + 4
+decreases-called_at l = 40 * l.depth + 4
 
 abbrev pub decreases-by_word : goal.decreases-by_word
-decreases-by_word l = 64 * l.depth + 6
+decreases-by_word l = 40 * l.depth + 6
 
 abbrev pub decreases-primary : goal.decreases-primary
-decreases-primary l = 64 * l.depth + 8
+decreases-primary l = 40 * l.depth + 8
 
 abbrev pub decreases-ranked : goal.decreases-ranked
-decreases-ranked l = 64 * l.depth + 32 + 3 * l.below
+decreases-ranked l = 40 * l.depth + 10 + 3 * l.below
 
 abbrev pub decreases-chain_from : goal.decreases-chain_from
-decreases-chain_from l = 64 * l.depth + 32 + 3 * l.below + 1
+decreases-chain_from l = 40 * l.depth + 10 + 3 * l.below + 1
 
 abbrev pub decreases-comparison : goal.decreases-comparison
-decreases-comparison l = 64 * l.depth + 32 + 3 * l.below + 1
+decreases-comparison l = 40 * l.depth + 10 + 3 * l.below + 1
 
 abbrev pub decreases-negation : goal.decreases-negation
-decreases-negation l = 64 * l.depth + 32 + 3 * l.below + 1
+decreases-negation l = 40 * l.depth + 10 + 3 * l.below + 1
 
 abbrev pub decreases-chain : goal.decreases-chain
-decreases-chain l = 64 * l.depth + 32 + 3 * l.below + 2
+decreases-chain l = 40 * l.depth + 10 + 3 * l.below + 2
 
 abbrev pub invariant-chain_from-loop : goal.invariant-chain_from-loop
 invariant-chain_from-loop l =

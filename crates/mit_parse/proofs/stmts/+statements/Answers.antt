@@ -4,13 +4,13 @@ use Rattle.mit_script.specs.Reading.{loop, statements}
 use Rattle.mit_parse.proofs.Loops.{statements_end, statements_go_on, statements_run_out, statements_stop}
 use Rattle.mit_parse.proofs.stmts.+statements.Goals as goal
 
-pub repeated-returns-in_err-op : goal.repeated-returns-in_err-op
+pub repeated-returns-in_err-condition : goal.repeated-returns-in_err-condition
 unfolding loop
-repeated-returns-in_err-op t c = search rules
+repeated-returns-in_err-condition t c = search rules
 
-pub repeated-returns-in_err-body : goal.repeated-returns-in_err-body
+pub repeated-returns-in_err-condition-2 : goal.repeated-returns-in_err-condition-2
 unfolding loop
-repeated-returns-in_err-body t c = search rules
+repeated-returns-in_err-condition-2 t c = search rules
 
 pub repeated-returns : goal.repeated-returns
 unfolding loop
