@@ -10,7 +10,7 @@ use Rattle.std.proofs.Math.Seq.{drop-append_seam, take-append_seam}
 use Rattle.std.proofs.lemmas.Slice.Zip.{get_or-zip, length-zip}
 use Rattle.std.proofs.lemmas.Grind.{get_or-set_at}
 use Rattle.std.proofs.lemmas.Bool.Decides.{nat_tests}
-use Rattle.mit_script.specs.Accepted.{Check, Known, and_then, both, branched, in_order, is_assigned, rejoined, with_assigned}
+use Rattle.mit_script.specs.Accepted.{Check, Known, and_then, assigned_in_both, branched, in_order, is_assigned, rejoined, with_assigned}
 use Rattle.mit_check.specs.Trails.{Extends, are_fresh, known_in, marked, newly}
 use Rattle.mit_check.specs.declared.tables.Tables.{Tables}
 
@@ -99,24 +99,24 @@ both_at false true false = refl
 both_at false false true = refl
 both_at false false false = refl
 
-get-both : (xs ys : List Bool) (i : ℕ) → i < length xs → i < length ys → get_or (both xs ys) i false ≡ (get_or xs i false && get_or ys i false)
+get-both : (xs ys : List Bool) (i : ℕ) → i < length xs → i < length ys → get_or (assigned_in_both xs ys) i false ≡ (get_or xs i false && get_or ys i false)
 get-both xs ys i lt lt' =
     let size : i < length (zip xs ys) = grind (arith, length-zip) in
     get_or-map (λ (pair : Bool × Bool). pair.0 && pair.1) (zip xs ys) i (false, false) false size ∙ ap (λ (pair : Bool × Bool). pair.0 && pair.1) (get_or-zip xs ys i (false, false) lt lt')
 
-length-both : (xs ys : List Bool) → length xs ≡ length ys → length (both xs ys) ≡ length xs
+length-both : (xs ys : List Bool) → length xs ≡ length ys → length (assigned_in_both xs ys) ≡ length xs
 length-both xs ys same = length-map (zip xs ys) (λ (pair : Bool × Bool). pair.0 && pair.1) ∙ grind (arith, length-zip)
 
 -- those of the first way that the second one has as well
 pub marked_both : (first second : List ℕ) (xs : List Bool)
-    → marked true (filter (is_assigned (marked true second xs)) first) xs ≡ both (marked true first xs) (marked true second xs)
+    → marked true (filter (is_assigned (marked true second xs)) first) xs ≡ assigned_in_both (marked true first xs) (marked true second xs)
 marked_both first second xs =
     let p = is_assigned (marked true second xs) in
     let one : length (marked true first xs) ≡ length xs = length-marked true first xs in
     let other : length (marked true second xs) ≡ length xs = length-marked true second xs in
     let left : length (marked true (filter p first) xs) ≡ length xs = length-marked true (filter p first) xs in
-    let right : length (both (marked true first xs) (marked true second xs)) ≡ length xs = length-both (marked true first xs) (marked true second xs) (one ∙ sym other) ∙ one in
-    ext_get_or false (marked true (filter p first) xs) (both (marked true first xs) (marked true second xs)) (left ∙ sym right)
+    let right : length (assigned_in_both (marked true first xs) (marked true second xs)) ≡ length xs = length-both (marked true first xs) (marked true second xs) (one ∙ sym other) ∙ one in
+    ext_get_or false (marked true (filter p first) xs) (assigned_in_both (marked true first xs) (marked true second xs)) (left ∙ sym right)
     (λ i lt. let within : i < length xs = omega (arith, left, lt) in
     let passes : p i ≡ cond (among second i) true (get_or xs i false) = is_assigned-get (marked true second xs) i ∙ get-marked true second xs i within in
     get-marked true (filter p first) xs i within
@@ -180,14 +180,14 @@ before_by true true kept fresh = fresh
 before_by true false kept fresh = absurd (let h = kept refl in cc)
 before_by false later kept fresh = refl
 
--- what is not assigned behind was not assigned before
+-- what is not assigned after was not assigned before
 fresh_before : (xs : List Bool) (vs ws : List ℕ) → are_fresh (marked true vs xs) ws ≡ true → are_fresh xs ws ≡ true
 fresh_before xs vs [] fresh = refl
 fresh_before xs vs (w ∷ ws) fresh =
     let parts = and_parts (not (is_assigned (marked true vs xs) w)) (are_fresh (marked true vs xs) ws) fresh in
     rw (before_by (is_assigned xs w) (is_assigned (marked true vs xs) w) (stays xs vs w) parts.0, fresh_before xs vs ws parts.1) refl
 
--- one growth behind another
+-- one growth after another
 pub extends_twice : (one two three : Tables) → Extends one two → Extends two three → Extends one three
 extends_twice one two three first second = record {
   more = first.more ++ second.more;
@@ -235,16 +235,16 @@ fresh-filter xs p (v ∷ vs) fresh =
     let parts = and_parts (not (is_assigned xs v)) (are_fresh xs vs) fresh in
     fresh_by_one xs p v vs (p v) parts.0 (fresh-filter xs p vs parts.1)
 
--- what is known behind both blocks of an `if`
+-- what is known after both blocks of an `if`
 pub joined : (before other back after : Tables) (first taken found : List ℕ) → Restored before other back taken
     → found ≡ filter (is_assigned other.assigned.items) first
     → known_in after ≡ with_assigned (marked true found back.assigned.items) (known_in back)
-    → known_in after ≡ with_assigned (both (marked true first before.assigned.items) other.assigned.items) (known_in other)
+    → known_in after ≡ with_assigned (assigned_in_both (marked true first before.assigned.items) other.assigned.items) (known_in other)
 joined before other back after first taken found restored is known =
-    let marks : marked true found back.assigned.items ≡ both (marked true first before.assigned.items) other.assigned.items =
+    let marks : marked true found back.assigned.items ≡ assigned_in_both (marked true first before.assigned.items) other.assigned.items =
     rw (is, restored.assigned, restored.first) (marked_both first taken before.assigned.items) in
     known ∙ (ap (λ assigned. with_assigned assigned (known_in back)) marks
-    ∙ ap (λ k. with_assigned (both (marked true first before.assigned.items) other.assigned.items) k) restored.known)
+    ∙ ap (λ k. with_assigned (assigned_in_both (marked true first before.assigned.items) other.assigned.items) k) restored.known)
 
 pub extends_joined : (before other back after : Tables) (first taken found : List ℕ) → Restored before other back taken → are_fresh before.assigned.items first ≡ true
     → found ≡ filter (is_assigned other.assigned.items) first

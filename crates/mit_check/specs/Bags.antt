@@ -1,4 +1,4 @@
--- A device of the proofs: nobody has to believe it. Where the arguments of each operator are at least its bags.
+-- Devices of the proofs: nobody has to believe them. Where the arguments of each operator are at least its bags.
 use Rattle.std.specs.Prelude.{◌≤◌, length, All}
 use Rattle.mit_ops.specs.Kinds.{bag_inputs_of}
 use Rattle.mit_script.specs.Trees.{Head, assigns, writes, decides, heads_in}

@@ -1,5 +1,5 @@
 -- Devices of the proofs: nobody has to believe them. What the tables stand for, which variables became assigned, and how that is taken back.
-use Rattle.std.specs.Prelude.{◌≡◌, ℕ, List, [], ◌∷◌, ◌++◌, Bool, true, false, not, if◌then◌else◌, fold, slice_set}
+use Rattle.std.specs.Prelude.{◌≡◌, ℕ, List, [], ◌∷◌, ◌++◌, Bool, true, not, if◌then◌else◌, fold, slice_set}
 use Rattle.std.specs.List.{list_all}
 use Rattle.mit_ops.specs.declared.types.OpRefused.{OpRefused}
 use Rattle.mit_ops.specs.declared.types.OpRefused.TheVariants as refused
@@ -14,11 +14,11 @@ abbrev pub known_in : Tables → Known
 known_in tables = record { assigned = tables.assigned.items; types = tables.types.items; before = tables.before }
 
 -- how a statement is refused where its operator is
-abbrev pub TellsRefusal : ℕ → OpRefused → CheckStop → Type 0
-TellsRefusal statement refused.TooLarge stop = stop ≡ Fault statement TooLarge
-TellsRefusal statement refused.TooManyColumns stop = stop ≡ Fault statement TooManyColumns
-TellsRefusal statement refused.WrongType stop = stop ≡ Fault statement WrongType
-TellsRefusal statement refused.NoMemory stop = stop ≡ NoMemory
+abbrev pub TellsOperatorRefusal : ℕ → OpRefused → CheckStop → Type 0
+TellsOperatorRefusal statement refused.TooLarge stop = stop ≡ Fault statement TooLarge
+TellsOperatorRefusal statement refused.TooManyColumns stop = stop ≡ Fault statement TooManyColumns
+TellsOperatorRefusal statement refused.WrongType stop = stop ≡ Fault statement WrongType
+TellsOperatorRefusal statement refused.NoMemory stop = stop ≡ NoMemory
 
 -- the list, where each of these variables stands as this
 abbrev pub marked : Bool → List ℕ → List Bool → List Bool

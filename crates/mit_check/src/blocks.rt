@@ -1,5 +1,6 @@
 //! The check of statements, block by block.
 ghost use Rattle.std.specs.Prelude.{◌≡◌, ◌≤◌, ◌+◌, Ok, IfOk, IfErr, All, map, true};
+ghost use Rattle.mit_lex.specs.declared.limits.TheConstants.{MAX_SCRIPT};
 ghost use Rattle.mit_script.specs.Accepted as spec;
 ghost use Rattle.mit_script.specs.Accepted.{checked};
 ghost use Rattle.mit_script.specs.Trees.{IsFormed, count_of, count_of_all};
@@ -18,7 +19,7 @@ use std::alloc::Global;
 /// What is known after the statements of a block.
 #[cycle(check_all)]
 fn check_all(alloc: Global, tables: Tables, block: &[Stmt]) -> Result<Tables, CheckStop>
-    requires few { tables.before + count_of_all block.now ≤ 1048576 }
+    requires few { tables.before + count_of_all block.now ≤ MAX_SCRIPT }
     requires complete { All HaveBags block.now }
     ensures passed { IfOk result (λ after.
         spec.in_order (map spec.check_of block.now) (known_in tables) ≡ Ok (known_in after)) }
@@ -42,7 +43,7 @@ fn check_other(
     first: &[u32],
     no: &[Stmt],
 ) -> Result<Tables, CheckStop>
-    requires few { before.before + count_of_all no.now ≤ 1048576 }
+    requires few { before.before + count_of_all no.now ≤ MAX_SCRIPT }
     requires complete { All HaveBags no.now }
     ensures passed { IfOk result (λ after. spec.rejoined (map spec.check_of no.now) before.assigned.items
         (spec.with_assigned (marked true first.now before.assigned.items) (known_in before)) ≡ Ok (known_in after)) }
@@ -61,7 +62,7 @@ fn check_other(
 /// What is known after a `while`, by what is known after its condition.
 #[cycle(check_all)]
 fn check_body(alloc: Global, inside: Tables, body: &[Stmt]) -> Result<Tables, CheckStop>
-    requires few { inside.before + count_of_all body.now ≤ 1048576 }
+    requires few { inside.before + count_of_all body.now ≤ MAX_SCRIPT }
     requires complete { All HaveBags body.now }
     ensures passed { IfOk result (λ after.
         spec.looped (map spec.check_of body.now) (known_in inside) ≡ Ok (known_in after)) }
@@ -79,7 +80,7 @@ fn check_body(alloc: Global, inside: Tables, body: &[Stmt]) -> Result<Tables, Ch
 /// What is known after a statement.
 #[cycle(check_all)]
 fn check_one(alloc: Global, tables: Tables, stmt: &Stmt) -> Result<Tables, CheckStop>
-    requires few { tables.before + count_of stmt.now ≤ 1048576 }
+    requires few { tables.before + count_of stmt.now ≤ MAX_SCRIPT }
     requires complete { HaveBags stmt.now }
     ensures passed { IfOk result (λ after.
         spec.check_of stmt.now (known_in tables) ≡ Ok (known_in after)) }
@@ -110,7 +111,7 @@ pub(crate) fn types_of(
     names: &[Name],
     body: &[Stmt],
 ) -> Result<Vec<VarType>, CheckStop>
-    requires few { count_of_all body.now ≤ 1048576 }
+    requires few { count_of_all body.now ≤ MAX_SCRIPT }
     requires complete { All HaveBags body.now }
     ensures typed { IfOk result (λ types. spec.checked_body names.now body.now ≡ Ok types.items) }
     ensures fault { IfErr result (TellsFault (spec.checked_body names.now body.now)) }

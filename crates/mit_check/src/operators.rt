@@ -1,10 +1,11 @@
 //! The check of one statement, without those in its blocks.
 ghost use Rattle.std.specs.Prelude.{◌≡◌, ◌+◌, ◌<◌, ◌≤◌, Ok, None, Some, IfOk, IfErr, if◌then◌else◌, is_some, length, not, slice_get, slice_set, true, unwrap_or};
+ghost use Rattle.mit_lex.specs.declared.limits.TheConstants.{MAX_SCRIPT};
 ghost use Rattle.mit_ops.specs.Kinds.{bag_inputs_of};
 ghost use Rattle.mit_ops.specs.Results.{IsBagType, Refuses};
 ghost use Rattle.mit_script.specs.Accepted as spec;
 ghost use Rattle.mit_check.specs.Tells.{TellsFault};
-ghost use Rattle.mit_check.specs.Trails.{Extends, TellsRefusal, known_in};
+ghost use Rattle.mit_check.specs.Trails.{Extends, TellsOperatorRefusal, known_in};
 
 use crate::faults::CheckStop;
 use crate::tables::{Kept, Tables};
@@ -16,7 +17,7 @@ use std::alloc::{AllocError, Global};
 
 /// A statement is refused as its operator is.
 fn refused(statement: u32, why: OpRefused) -> CheckStop
-    ensures { TellsRefusal statement why result }
+    ensures { TellsOperatorRefusal statement why result }
 {
     let code = match why {
         OpRefused::TooLarge => CheckCode::TooLarge,
@@ -43,7 +44,7 @@ fn infer(alloc: Global, tables: &Tables, op: &OpSpec, args: &[u32]) -> Result<Va
 
 /// The type of what the operator of a statement gives.
 fn judge(alloc: Global, tables: &Tables, op: &OpSpec, args: &[u32]) -> Result<Kept, CheckStop>
-    requires few { tables.now.before < 1048576 }
+    requires few { tables.now.before < MAX_SCRIPT }
     requires complete { bag_inputs_of op.now ≤ length args.now }
     ensures passed { IfOk result (λ type.
         spec.fault_or (known_in tables.now) (spec.judged (known_in tables.now) op.now args.now) ≡ Ok type) }
@@ -106,7 +107,7 @@ pub(crate) fn assign(
     op: &OpSpec,
     args: &[u32],
 ) -> Result<Tables, CheckStop>
-    requires few { tables.before < 1048576 }
+    requires few { tables.before < MAX_SCRIPT }
     requires complete { bag_inputs_of op.now ≤ length args.now }
     ensures passed { IfOk result (λ after.
         spec.assigned_by target op.now args.now (known_in tables) ≡ Ok (known_in after)) }
@@ -138,7 +139,7 @@ pub(crate) fn assign(
 
 /// What is known after one more statement.
 fn pass(tables: Tables) -> Tables
-    requires { tables.before < 1048576 }
+    requires { tables.before < MAX_SCRIPT }
     ensures known { known_in result ≡ spec.passed (known_in tables) }
     ensures trail { result.trail ≡ tables.trail }
 {
@@ -163,7 +164,7 @@ pub(crate) fn write(
     op: &OpSpec,
     args: &[u32],
 ) -> Result<Tables, CheckStop>
-    requires few { tables.before < 1048576 }
+    requires few { tables.before < MAX_SCRIPT }
     requires complete { bag_inputs_of op.now ≤ length args.now }
     ensures passed { IfOk result (λ after.
         spec.written_by op.now args.now (known_in tables) ≡ Ok (known_in after)) }
@@ -182,7 +183,7 @@ pub(crate) fn decide(
     op: &OpSpec,
     args: &[u32],
 ) -> Result<Tables, CheckStop>
-    requires few { tables.before < 1048576 }
+    requires few { tables.before < MAX_SCRIPT }
     requires complete { bag_inputs_of op.now ≤ length args.now }
     ensures passed { IfOk result (λ after.
         spec.decided_by op.now args.now (known_in tables) ≡ Ok (known_in after)) }

@@ -177,7 +177,7 @@ impl Tables {
 
     /// The types of all variables.
     pub(crate) fn all_types(&self, alloc: Global) -> Result<Vec<VarType>, AllocError>
-        ensures { IfOk result (λ types. types.items ≡ map spec.given (known_in self.now).types) }
+        ensures { IfOk result (λ types. types.items ≡ map spec.type_or_unset (known_in self.now).types) }
     {
         let mut types = Vec::with_capacity(alloc, self.types.len())?;
         for kept in &self.types {
@@ -206,7 +206,7 @@ fn unset(alloc: Global) -> VarType
 
 /// The type that is kept, or that of a variable that no statement assigns.
 fn given(alloc: Global, kept: &Option<Kept>) -> Result<VarType, AllocError>
-    ensures { IfOk result (λ type. type ≡ spec.given kept.now) }
+    ensures { IfOk result (λ type. type ≡ spec.type_or_unset kept.now) }
 {
     match kept {
         Some(kept) => kept.get().copy(alloc),

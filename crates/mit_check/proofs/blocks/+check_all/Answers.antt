@@ -2,6 +2,7 @@ use Rattle.std.proofs.Common.{◌≡◌, ◌∙◌, ◌+◌, ◌≤◌, All, Ok,
 use Rattle.std.specs.Prelude.{IfErr, IfOk}
 use Rattle.std.proofs.lemmas.Grind.{common_steps}
 use Rattle.std.proofs.lemmas.Result.{IfOk-weaker}
+use Rattle.mit_lex.specs.declared.limits.TheConstants.{MAX_SCRIPT}
 use Rattle.mit_script.specs.Accepted as spec
 use Rattle.mit_script.specs.Trees.{count_of_all}
 use Rattle.mit_script.specs.declared.tree.Stmt.{the_lemmas}
@@ -90,7 +91,7 @@ check_one-decide-requires-in-While-clause-complete t c = rw c.as_slice-in-While.
 pub check_one-check_all-requires : goal.check_one-check_all-requires
 check_one-check_all-requires t c =
     let inside : All HaveBags c.as_slice-in-If-2.result.now = rw c.as_slice-in-If-2.ensures (if_bags _ _ c.in-If.is c.requires.complete).1 in
-    let room : c.args.tables.before + (1 + count_of_all c.in-If.yes + count_of_all c.in-If.no) ≤ 1048576 = rw (count_of-If c.in-If.op c.in-If.args c.in-If.yes c.in-If.no) at (rw c.in-If.is at c.requires.few) in
+    let room : c.args.tables.before + (1 + count_of_all c.in-If.yes + count_of_all c.in-If.no) ≤ MAX_SCRIPT = rw (count_of-If c.in-If.op c.in-If.args c.in-If.yes c.in-If.no) at (rw c.in-If.is at c.requires.few) in
     (search (rules, the_lemmas), (rw c.as_slice-in-If-2.ensures (omega (arith, room, c.in_ok-inside-in-If.ensures.counted)), inside))
 
 pub check_one-check_other-requires : goal.check_one-check_other-requires
@@ -98,12 +99,12 @@ check_one-check_other-requires t c =
     let back = restored c.in_ok-before-in-If.before (c.len-size.ensures ∙ c.in_ok-inside-in-If.inside.trail.ok.0) c.in_ok-one-in-If.ensures.extends c.in_ok-before-in-If.ensures.known c.in_ok-before-in-If.ensures.trail c.in_ok-before-in-If.ensures.taken in
     let inside : All HaveBags c.as_slice-in-If-3.result.now = rw c.as_slice-in-If-3.ensures (if_bags _ _ c.in-If.is c.requires.complete).2 in
     let before : c.in_ok-before-in-If.before.before ≡ c.in_ok-one-in-If.one.before = ap (λ (k : spec.Known). k.before) back.known in
-    let room : c.args.tables.before + (1 + count_of_all c.in-If.yes + count_of_all c.in-If.no) ≤ 1048576 = rw (count_of-If c.in-If.op c.in-If.args c.in-If.yes c.in-If.no) at (rw c.in-If.is at c.requires.few) in
+    let room : c.args.tables.before + (1 + count_of_all c.in-If.yes + count_of_all c.in-If.no) ≤ MAX_SCRIPT = rw (count_of-If c.in-If.op c.in-If.args c.in-If.yes c.in-If.no) at (rw c.in-If.is at c.requires.few) in
     let counted = rw c.as_slice-in-If-2.ensures at c.in_ok-one-in-If.ensures.counted in
     (search (rules, the_lemmas, tests, common_steps), (rw c.as_slice-in-If-3.ensures (omega (arith, room, before, counted, c.in_ok-inside-in-If.ensures.counted)), inside))
 
 pub check_one-check_body-requires : goal.check_one-check_body-requires
 check_one-check_body-requires t c =
     let inside : All HaveBags c.as_slice-in-While-2.result.now = rw c.as_slice-in-While-2.ensures (while_bags _ c.in-While.is c.requires.complete).1 in
-    let room : c.args.tables.before + (1 + count_of_all c.in-While.body) ≤ 1048576 = rw (count_of-While c.in-While.op c.in-While.args c.in-While.body) at (rw c.in-While.is at c.requires.few) in
+    let room : c.args.tables.before + (1 + count_of_all c.in-While.body) ≤ MAX_SCRIPT = rw (count_of-While c.in-While.op c.in-While.args c.in-While.body) at (rw c.in-While.is at c.requires.few) in
     (search (rules, the_lemmas), (rw c.as_slice-in-While-2.ensures (omega (arith, room, c.in_ok-inside-in-While.ensures.counted)), inside))
