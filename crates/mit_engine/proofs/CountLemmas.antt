@@ -12,6 +12,7 @@ use Rattle.mit_engine.specs.declared.edges.Received.{Received}
 use Rattle.mit_engine.specs.declared.operators.Operator.{Operator}
 use Rattle.mit_engine.specs.declared.operators.Outcome.TheVariants as outcome
 use Rattle.mit_engine.specs.declared.job.Verdict.TheVariants as verdict
+use Rattle.mit_engine.specs.declared.thin.TheConstants.{MAX_STATEMENTS}
 use Rattle.mit_engine.specs.declared.thin.ThinStep.{ThinStep}
 use Rattle.mit_engine.specs.declared.thin.ThinStep.TheVariants as step
 use Rattle.mit_engine.proofs.HeldLemmas.{HeldAt, held_at}
@@ -99,5 +100,5 @@ two_edges (step.Read target name count) = omega arith
 two_edges (step.Union target left right) = omega arith
 two_edges (step.Write source name) = omega arith
 
-pub few_actions : (steps : List ThinStep) → length steps ≤ 1000 → 1 + 2 * length steps + sum_by edges_of steps ≤ 4001
+pub few_actions : (steps : List ThinStep) → length steps ≤ MAX_STATEMENTS → 1 + 2 * length steps + sum_by edges_of steps ≤ 4001
 few_actions steps few = omega (arith, sum_by-le edges_of 2 steps (λ k d within. two_edges (slice_index_or steps k d)))

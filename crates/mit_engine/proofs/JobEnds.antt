@@ -7,7 +7,7 @@ use Rattle.mit_world.specs.Files.{FileMap}
 use Rattle.mit_shelf.specs.Printed.{Write}
 use Rattle.mit_shelf.specs.Shelf.{Agrees, Kept}
 use Rattle.mit_engine.specs.Thin.{Finished, Faulted, IsFormedThin, after_read, assign, bag_in, exec, exec_from}
-use Rattle.mit_engine.specs.Operators.{Fits, JobState, assigned_after, assigner, sources, sources_from, sources_of, staged_write, whole, writes_of}
+use Rattle.mit_engine.specs.Operators.{Fits, JobState, assigned_after, assigner, sources, sources_from, sources_of, staged_write, whole, staged_writes}
 use Rattle.mit_engine.specs.Running.{Holds, MadeOf, Means, Part, Unmade, Made, AtFault, ReportsPart, StagesPart, Stands, bags_made, verdict_from, verdict_of, with_bag}
 use Rattle.mit_ops.specs.declared.faults.FaultKind.{FaultKind}
 use Rattle.mit_engine.specs.declared.job.Verdict.TheVariants as verdict
@@ -152,13 +152,13 @@ exec_fault files number store writes (step.Write source name) steps bags kind ma
 -- what a write stages follows the writes before it
 writes_more : (statement : ThinStep) (steps : List ThinStep) (operator : Operator) (operators : List Operator) (writes : List Write) (bag : BagOf)
     → StagesPart statement (Made bag) operator.staged
-    → writes_next writes statement bag ++ writes_of steps operators ≡ writes ++ writes_of (statement ∷ steps) (operator ∷ operators)
-unfolding writes_of
+    → writes_next writes statement bag ++ staged_writes steps operators ≡ writes ++ staged_writes (statement ∷ steps) (operator ∷ operators)
+unfolding staged_writes
 writes_more (step.Read target name count) steps operator operators writes bag staged = refl
 writes_more (step.Union target left right) steps operator operators writes bag staged = refl
 writes_more (step.Write source name) steps operator operators writes bag staged =
-    append_assoc writes (record { name = name; bag = bag } ∷ []) (writes_of steps operators)
-    ∙ ap (λ (one : Option BagOf). writes ++ staged_write name one (writes_of steps operators)) (sym staged)
+    append_assoc writes (record { name = name; bag = bag } ∷ []) (staged_writes steps operators)
+    ∙ ap (λ (one : Option BagOf). writes ++ staged_write name one (staged_writes steps operators)) (sym staged)
 
 -- ---- the end
 
@@ -183,8 +183,8 @@ exec_failed files parts assigned at statement steps operator writes kind does he
 
 completes : {files : FileMap} {parts : ℕ → Part} {assigned : List ℕ} {at : ℕ} {steps : List ThinStep} {operators : List Operator} (writes : List Write)
     → Along files parts assigned at steps operators → verdict_from at operators ≡ verdict.Complete
-    → exec_from files (at + 1) (bags_at parts assigned) writes steps ≡ Finished (writes ++ writes_of steps operators)
-unfolding exec_from verdict_from writes_of
+    → exec_from files (at + 1) (bags_at parts assigned) writes steps ≡ Finished (writes ++ staged_writes steps operators)
+unfolding exec_from verdict_from staged_writes
 completes writes (ended assigned at) is = ap Finished (sym (append-nil writes))
 completes {files} {parts} writes (next assigned at statement steps operator operators fits does later) is =
     let hears = complete_first at operator.heard (verdict_from (at + 1) operators) is in
@@ -210,7 +210,7 @@ faults {files} {parts} writes place kind (next assigned at statement steps opera
 
 -- where each operator is heard Done, the interpreter comes to its end with the staged writes
 pub complete_ends : {steps : List ThinStep} {shelf : Kept} {job : JobState} (files : FileMap) → IsFormedThin steps → Stands steps shelf job → Agrees shelf files
-    → verdict_of job ≡ verdict.Complete → exec files steps ≡ Finished (writes_of steps job.operators)
+    → verdict_of job ≡ verdict.Complete → exec files steps ≡ Finished (staged_writes steps job.operators)
 complete_ends files formed stands agrees is = completes [] (all_along files formed stands agrees) is
 
 -- where the first operator that is not heard Done is at fault, the interpreter stops at its statement

@@ -6,7 +6,7 @@ use Rattle.std.proofs.lemmas.List.Elements.{All-append}
 use Rattle.std.proofs.lemmas.Option.{slice_get_within}
 use Rattle.mit_world.specs.Files.{FileMap}
 use Rattle.mit_engine.specs.Job.{AnswersEnding}
-use Rattle.mit_engine.specs.Operators.{JobState, actions_left, first_job, writes_of}
+use Rattle.mit_engine.specs.Operators.{JobState, actions_left, first_job, staged_writes}
 use Rattle.mit_engine.specs.Picks.{GrowsBy, GrowsWithin}
 use Rattle.mit_shelf.specs.Printed.{published}
 use Rattle.mit_engine.specs.Running.{Goes, Stands, verdict_of}
@@ -15,6 +15,7 @@ use Rattle.mit_engine.specs.Thin.{Faulted, IsFormedThin, actions_of, edges_of, e
 use Rattle.mit_ops.specs.declared.faults.FaultKind.{FaultKind}
 use Rattle.mit_engine.specs.declared.job.Verdict.TheVariants as verdict
 use Rattle.mit_engine.specs.declared.schedule.Pick.{Pick}
+use Rattle.mit_engine.specs.declared.thin.TheConstants.{MAX_STATEMENTS}
 use Rattle.mit_engine.specs.declared.thin.ThinStep.{ThinStep}
 use Rattle.mit_engine.proofs.CountLemmas.{complete_left, few_actions, first_left, something_left}
 use Rattle.mit_engine.proofs.DeliveryLemmas.{starts}
@@ -113,9 +114,15 @@ run_all {steps = []} ran is = ran.idle refl
 run_all {steps = first ∷ steps} ran is =
     omega (arith, complete_left ran.stands is (omega arith), ran.counted, all_actions (first ∷ steps) (omega arith))
 
+-- the log of one that stopped at its next action is no longer than that of one that is complete
+pub stopped_within : {steps : List ThinStep} {shelf : Kept} {job : JobState} {actions : ℕ} (script : List ThinStep) (first middle last : List Pick) → steps ≡ script
+    → Ran steps shelf job actions → verdict_of job ≡ verdict.Running → GrowsBy actions first middle → GrowsWithin 1 middle last → GrowsWithin (actions_of script) first last
+stopped_within {actions = actions} script first middle last same ran is before after =
+    within_more actions (actions_of script) first middle last before after (omega (arith, (run_within ran is).0, ap actions_of same))
+
 -- the statement at fault is one of few
 pub run_fault : {steps : List ThinStep} {shelf : Kept} {job : JobState} {actions at : ℕ} {kind : FaultKind} → Ran steps shelf job actions
-    → verdict_of job ≡ verdict.Fault at kind → at < 1000
+    → verdict_of job ≡ verdict.Fault at kind → at < MAX_STATEMENTS
 run_fault {job = job} {at = at} {kind} ran is = omega (arith, fault_within 0 job.operators at kind is, ran.stands.holds.sized, ran.formed.0)
 
 -- ---- the answer
@@ -127,10 +134,10 @@ fault_answers {at = at} {kind} script same ran is files agrees =
     (ap (exec files) (sym same) ∙ fault_ends files at kind ran.formed ran.stands agrees is, refl)
 
 pub complete_answers : {steps : List ThinStep} {shelf : Kept} {job : JobState} {actions : ℕ} (script : List ThinStep) (written : FileMap) → steps ≡ script
-    → Ran steps shelf job actions → verdict_of job ≡ verdict.Complete → written ≡ published (writes_of steps job.operators)
+    → Ran steps shelf job actions → verdict_of job ≡ verdict.Complete → written ≡ published (staged_writes steps job.operators)
     → (files : FileMap) → Agrees shelf files → AnswersEnding script (exec files script) (Ok (record { files = written; blocks = 1; actions = actions }))
 complete_answers {steps} {job = job} script written same ran is filed files agrees = (
-  writes_of steps job.operators,
+  staged_writes steps job.operators,
   ap (exec files) (sym same) ∙ complete_ends files ran.formed ran.stands agrees is,
   filed,
   refl,

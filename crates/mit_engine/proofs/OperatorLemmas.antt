@@ -5,7 +5,7 @@ use Rattle.std.proofs.lemmas.Bool.{eqb-true, false≢true}
 use Rattle.std.proofs.lemmas.List.{append-nil, append_assoc, at_drop_all, drop_all, get_or-append_right, get_or-drop, length-map, length-take-le}
 use Rattle.mit_rows.specs.Bags.{BagOf}
 use Rattle.mit_world.specs.Files.{FileMap}
-use Rattle.mit_engine.specs.Operators.{staged_write, writes_of}
+use Rattle.mit_engine.specs.Operators.{staged_write, staged_writes}
 use Rattle.mit_shelf.specs.Printed.{published_onto}
 use Rattle.mit_engine.specs.Running.{verdict_at, verdict_from, where_any}
 use Rattle.mit_engine.specs.declared.operators.Operator.{Operator}
@@ -99,29 +99,29 @@ formed_at_hand assigned steps at first within is formed =
 
 -- the files of one operator, and then those of the later ones
 published_next : (written : FileMap) (first : ThinStep) (steps : List ThinStep) (operator : Operator) (operators : List Operator)
-    → published_onto (published_onto written (writes_of (first ∷ []) (operator ∷ []))) (writes_of steps operators) ≡ published_onto written (writes_of (first ∷ steps) (operator ∷ operators))
-unfolding writes_of published_onto
+    → published_onto (published_onto written (staged_writes (first ∷ []) (operator ∷ []))) (staged_writes steps operators) ≡ published_onto written (staged_writes (first ∷ steps) (operator ∷ operators))
+unfolding staged_writes published_onto
 published_next written (step.Read target name count) steps operator operators = refl
 published_next written (step.Union target left right) steps operator operators = refl
 published_next written (step.Write source name) steps operator operators = by_staged operator.staged
   where
-    by_staged : (staged : Option BagOf) → published_onto (published_onto written (staged_write name staged [])) (writes_of steps operators)
-        ≡ published_onto written (staged_write name staged (writes_of steps operators))
+    by_staged : (staged : Option BagOf) → published_onto (published_onto written (staged_write name staged [])) (staged_writes steps operators)
+        ≡ published_onto written (staged_write name staged (staged_writes steps operators))
     by_staged None = refl
     by_staged (Some bag) = refl
 
 pub files_more : (steps : List ThinStep) (operators : List Operator) (at : ℕ) (first : ThinStep) (operator : Operator) (before after whole : FileMap)
     → at < length steps → at < length operators → first ≡ get_or steps at first → operator ≡ get_or operators at operator
-    → published_onto before (writes_of (drop at steps) (drop at operators)) ≡ whole → after ≡ published_onto before (writes_of (first ∷ []) (operator ∷ []))
-    → published_onto after (writes_of (drop (at + 1) steps) (drop (at + 1) operators)) ≡ whole
+    → published_onto before (staged_writes (drop at steps) (drop at operators)) ≡ whole → after ≡ published_onto before (staged_writes (first ∷ []) (operator ∷ []))
+    → published_onto after (staged_writes (drop (at + 1) steps) (drop (at + 1) operators)) ≡ whole
 files_more steps operators at first operator before after whole within inside is this so_far grown =
-    ap (λ files. published_onto files (writes_of (drop (at + 1) steps) (drop (at + 1) operators))) grown
+    ap (λ files. published_onto files (staged_writes (drop (at + 1) steps) (drop (at + 1) operators))) grown
     ∙ published_next before first (drop (at + 1) steps) operator (drop (at + 1) operators)
-    ∙ ap (λ rest. published_onto before (writes_of rest (operator ∷ drop (at + 1) operators))) (sym (at_hand steps at first within is))
-    ∙ ap (λ rest. published_onto before (writes_of (drop at steps) rest)) (sym (at_hand operators at operator inside this)) ∙ so_far
+    ∙ ap (λ rest. published_onto before (staged_writes rest (operator ∷ drop (at + 1) operators))) (sym (at_hand steps at first within is))
+    ∙ ap (λ rest. published_onto before (staged_writes (drop at steps) rest)) (sym (at_hand operators at operator inside this)) ∙ so_far
 
 pub files_end : (steps : List ThinStep) (operators : List Operator) (at : ℕ) (written whole : FileMap) → length steps ≤ at
-    → published_onto written (writes_of (drop at steps) (drop at operators)) ≡ whole → written ≡ whole
-unfolding writes_of published_onto
+    → published_onto written (staged_writes (drop at steps) (drop at operators)) ≡ whole → written ≡ whole
+unfolding staged_writes published_onto
 files_end steps operators at written whole all so_far =
-    sym (ap (λ (rest : List ThinStep). published_onto written (writes_of rest (drop at operators))) (drop_all at steps all)) ∙ so_far
+    sym (ap (λ (rest : List ThinStep). published_onto written (staged_writes rest (drop at operators))) (drop_all at steps all)) ∙ so_far

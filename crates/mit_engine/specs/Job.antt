@@ -8,7 +8,7 @@ use Rattle.mit_shelf.specs.declared.stop.Stop.{Stop}
 use Rattle.mit_shelf.specs.declared.stop.Stop.TheVariants as stop
 use Rattle.mit_engine.specs.declared.thin.ThinStep.{ThinStep}
 
--- an answer of the job is the interpreter's ending; a failed folder and want of memory say nothing of it
+-- an answer of the job is the interpreter's ending; a failed folder and out of memory say nothing of it
 abbrev pub AnswersEnding : List ThinStep → Ending → Result Done (Stop ScriptFault) → Type 0
 AnswersEnding steps ending (Ok done) =
     (writes : List Write) × (ending ≡ Finished writes) × (done.files ≡ published writes) × (done.blocks ≡ 1) × (done.actions ≡ actions_of steps)

@@ -1,13 +1,14 @@
--- A device of the proofs: nobody has to believe it. The operators of a job, one for each statement, with the edges that lead to
+-- Devices of the proofs: nobody has to believe them. The operators of a job, one for each statement, with the edges that lead to
 -- them and the channels on these.
 use Rattle.std.specs.Prelude.{◌≡◌, ◌<◌, ◌≤◌, ⊤, ℕ, ◌+◌, List, [], ◌∷◌, ◌++◌, length, map, slice_set, slice_index_or, sum_by, Bool, true, false, not, ◌==◌, ◌&&◌, if◌then◌else◌, Option, Some, None, Result, Ok, Err}
 use Rattle.std.specs.List.{list_all}
 use Rattle.mit_rows.specs.Bags.{BagOf, bag_sum}
+use Rattle.mit_rows.specs.declared.row.TheConstants.{MAX_COLUMNS}
 use Rattle.mit_world.specs.Files.{FileMap}
 use Rattle.mit_shelf.specs.Printed.{Write}
 use Rattle.mit_engine.specs.Reads.{integers, read_bag}
 use Rattle.mit_shelf.specs.Names.{IsLegal}
-use Rattle.mit_engine.specs.Thin.{assign, most_columns}
+use Rattle.mit_engine.specs.Thin.{assign}
 use Rattle.mit_ops.specs.declared.faults.FaultKind.{FaultKind}
 use Rattle.mit_shelf.specs.declared.stop.Stop.{Stop}
 use Rattle.mit_shelf.specs.declared.stop.Stop.TheVariants as stop
@@ -159,7 +160,7 @@ whole files (step.Read target name count) bags = read_bag files name (integers c
 whole files (step.Union target left right) bags = Ok (bag_sum bags)
 whole files (step.Write source name) bags = Ok (slice_index_or bags 0 [])
 
--- a bag or a fault of a poll is the due one; a failed folder and want of memory say nothing of it
+-- a bag or a fault of a poll is the due one; a failed folder and out of memory say nothing of it
 abbrev pub GivesBag : Result BagOf FaultKind → Result BagOf (Stop FaultKind) → Type 0
 GivesBag due (Ok bag) = due ≡ Ok bag
 GivesBag due (Err (stop.Fault kind)) = due ≡ Err kind
@@ -168,7 +169,7 @@ GivesBag due (Err stop.NoMemory) = ⊤
 
 -- what a poll needs: a legal name and few columns for a read, and for a write its bag
 abbrev pub IsReady : ThinStep → List BagOf → Type 0
-IsReady (step.Read target name count) bags = IsLegal name × (count ≤ most_columns)
+IsReady (step.Read target name count) bags = IsLegal name × (count ≤ MAX_COLUMNS)
 IsReady (step.Union target left right) bags = ⊤
 IsReady (step.Write source name) bags = 0 < length bags
 
@@ -189,9 +190,9 @@ abbrev pub staged_write : List ℕ → Option BagOf → List Write → List Writ
 staged_write name None later = later
 staged_write name (Some bag) later = record { name = name; bag = bag } ∷ later
 
-unfoldable pub writes_of : List ThinStep → List Operator → List Write
-writes_of [] operators = []
-writes_of (step ∷ steps) [] = []
-writes_of (step.Read target name count ∷ steps) (operator ∷ operators) = writes_of steps operators
-writes_of (step.Union target left right ∷ steps) (operator ∷ operators) = writes_of steps operators
-writes_of (step.Write source name ∷ steps) (operator ∷ operators) = staged_write name operator.staged (writes_of steps operators)
+unfoldable pub staged_writes : List ThinStep → List Operator → List Write
+staged_writes [] operators = []
+staged_writes (step ∷ steps) [] = []
+staged_writes (step.Read target name count ∷ steps) (operator ∷ operators) = staged_writes steps operators
+staged_writes (step.Union target left right ∷ steps) (operator ∷ operators) = staged_writes steps operators
+staged_writes (step.Write source name ∷ steps) (operator ∷ operators) = staged_write name operator.staged (staged_writes steps operators)

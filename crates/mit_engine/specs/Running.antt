@@ -1,4 +1,4 @@
--- A device of the proofs: nobody has to believe it. The running job: what is on offer, when it has ended, and what its channels
+-- Devices of the proofs: nobody has to believe them. The running job: what is on offer, when it has ended, and what its channels
 -- hold at each moment.
 use Rattle.std.specs.Prelude.{◌≡◌, ◌<◌, ⊤, ◌⊎◌, ℕ, ◌+◌, List, [], ◌∷◌, ◌++◌, length, map, slice_get, Bool, true, false, if◌then◌else◌, Option, Some, None, Ok, Err}
 use Rattle.mit_rows.specs.Bags.{BagOf}

@@ -1,20 +1,15 @@
 -- Thin scripts, which read, unite and write bags: when they are formed, and what the step-by-step interpreter does.
 use Rattle.std.specs.Prelude.{◌≡◌, ◌<◌, ◌≤◌, ◌+◌, ◌*◌, ⊤, ◌⊎◌, ℕ, List, [], ◌∷◌, ◌++◌, length, slice_get, slice_set, slice_index_or, sum_by, Some, Result, Ok, Err, if◌then◌else◌, nat_lt}
 use Rattle.mit_rows.specs.Bags.{BagOf, bag_sum}
+use Rattle.mit_rows.specs.declared.row.TheConstants.{MAX_COLUMNS}
 use Rattle.mit_world.specs.Files.{FileMap}
 use Rattle.mit_shelf.specs.Names.{IsLegal}
 use Rattle.mit_shelf.specs.Printed.{Write}
 use Rattle.mit_engine.specs.Reads.{integers, read_bag}
 use Rattle.mit_ops.specs.declared.faults.FaultKind.{FaultKind}
+use Rattle.mit_engine.specs.declared.thin.TheConstants.{MAX_STATEMENTS}
 use Rattle.mit_engine.specs.declared.thin.ThinStep.{ThinStep}
 use Rattle.mit_engine.specs.declared.thin.ThinStep.TheVariants as step
-
--- the most columns of a read, and the most statements
-abbrev pub most_columns : ℕ
-most_columns = 16
-
-abbrev pub most_statements : ℕ
-most_statements = 1000
 
 -- ---- formed scripts
 
@@ -31,14 +26,14 @@ MayAssign columns target count = (target ≡ length columns) ⊎ (slice_get colu
 unfoldable pub FormedFrom : List ℕ → List ThinStep → Type 0
 FormedFrom columns [] = ⊤
 FormedFrom columns (step.Read target name count ∷ steps) =
-    IsLegal name × (1 ≤ count) × (count ≤ most_columns) × MayAssign columns target count × FormedFrom (columns_after columns target count) steps
+    IsLegal name × (1 ≤ count) × (count ≤ MAX_COLUMNS) × MayAssign columns target count × FormedFrom (columns_after columns target count) steps
 FormedFrom columns (step.Union target left right ∷ steps) =
     (count : ℕ) × (slice_get columns left ≡ Some count) × (slice_get columns right ≡ Some count) × MayAssign columns target count
     × FormedFrom (columns_after columns target count) steps
 FormedFrom columns (step.Write source name ∷ steps) = IsLegal name × (source < length columns) × FormedFrom columns steps
 
 abbrev pub IsFormedThin : List ThinStep → Type 0
-IsFormedThin steps = (length steps ≤ most_statements) × FormedFrom [] steps
+IsFormedThin steps = (length steps ≤ MAX_STATEMENTS) × FormedFrom [] steps
 
 -- ---- the step-by-step interpreter
 

@@ -29,7 +29,7 @@ impl<M> Channel<M> {
         }
     }
 
-    /// Puts a message behind all others. Where memory runs out it is dropped.
+    /// Puts a message after all others. Where memory runs out it is dropped.
     pub(crate) fn put(&mut self, message: M) -> Result<(), AllocError>
     where
         M: Drop,

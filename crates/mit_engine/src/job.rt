@@ -3,7 +3,7 @@ ghost use Rattle.std.specs.Prelude.{◌≡◌, ◌≤◌, ◌<◌, ◌++◌, tru
 ghost use Rattle.mit_rows.specs.Bags.{BagOf};
 ghost use Rattle.mit_world.specs.Files.{FileMap};
 ghost use Rattle.mit_world.specs.Outside.{IfFailed, Rose};
-ghost use Rattle.mit_engine.specs.Operators.{IsReady, after_poll, bags_here, first_job, passed_on, whole, with_operators, writes_of};
+ghost use Rattle.mit_engine.specs.Operators.{IsReady, after_poll, bags_here, first_job, passed_on, whole, with_operators, staged_writes};
 ghost use Rattle.mit_ops.specs.declared.faults.FaultKind.{FaultKind};
 ghost use Rattle.mit_shelf.specs.Printed.{published};
 ghost use Rattle.mit_engine.specs.Running.{Goes, IsEnabled, Stands, edges_from, offer_of, parts_from, polls_from, reports_from, verdict_of};
@@ -151,7 +151,7 @@ impl Job {
     /// The files of all writes, in the order of the statements.
     pub(crate) fn files(&self, alloc: Global, steps: &[ThinStep]) -> Result<Files, AllocError>
         requires { length self.now.operators ≡ length steps.now }
-        ensures { IfOk result (λ files. files ≡ published (writes_of steps.now self.now.operators)) }
+        ensures { IfOk result (λ files. files ≡ published (staged_writes steps.now self.now.operators)) }
     {
         files_of(alloc, steps, &self.operators)
     }

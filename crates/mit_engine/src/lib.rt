@@ -10,4 +10,4 @@ mod schedule;
 mod thin;
 
 pub use schedule::{Pick, Schedule, Seeded};
-pub use thin::{Done, Thin, ThinStep, run_thin};
+pub use thin::{Done, MAX_STATEMENTS, Thin, ThinStep, run_thin};

@@ -1,7 +1,7 @@
 //! The operators of a job, one for each statement.
 ghost use Rattle.std.specs.Prelude.{◌≡◌, ◌≤◌, ◌++◌, ◌∷◌, [], true, IfOk, OnOk, drop, length, map, take, vec_len};
 ghost use Rattle.std.specs.FinMap as fin;
-ghost use Rattle.mit_engine.specs.Operators.{Fits, assigned_after, can_poll, first_operator, hears, sends_all, sources, sources_of, writes_of};
+ghost use Rattle.mit_engine.specs.Operators.{Fits, assigned_after, can_poll, first_operator, hears, sends_all, sources, sources_of, staged_writes};
 ghost use Rattle.mit_shelf.specs.Printed.{bag_text, published, published_onto};
 ghost use Rattle.mit_engine.specs.Thin.{IsFormedThin};
 
@@ -130,7 +130,7 @@ pub(crate) fn files_of(
     operators: &[Operator],
 ) -> Result<Files, AllocError>
     requires { length operators.now ≡ length steps.now }
-    ensures { IfOk result (λ files. files ≡ published (writes_of steps.now operators.now)) }
+    ensures { IfOk result (λ files. files ≡ published (staged_writes steps.now operators.now)) }
 {
     let mut written = Files::new(alloc);
     for at in 0..steps.len() {
@@ -140,14 +140,14 @@ pub(crate) fn files_of(
 }
 
 // Writes the file of an operator, where it is a write that has staged its bag.
-#[tactic(auto, unfolding(crate::specs::Operators::writes_of, mit_shelf::specs::Printed::published_onto))]
+#[tactic(auto, unfolding(crate::specs::Operators::staged_writes, mit_shelf::specs::Printed::published_onto))]
 fn write_staged(
     alloc: Global,
     written: &mut Files,
     step: &ThinStep,
     operator: &Operator,
 ) -> Result<(), AllocError>
-    ensures { OnOk result (written.new ≡ published_onto written.old (writes_of (step.now ∷ []) (operator.now ∷ []))) }
+    ensures { OnOk result (written.new ≡ published_onto written.old (staged_writes (step.now ∷ []) (operator.now ∷ []))) }
 {
     match step {
         ThinStep::Read { .. } | ThinStep::Union { .. } => Ok(()),
@@ -163,7 +163,7 @@ fn write(alloc: Global, written: &mut Files, name: &Name, bag: &Bag) -> Result<(
     ensures ok { OnOk result (written.new ≡ fin.insert written.old name.now (bag_text bag.now)) }
 {
     let text = print_rows(alloc, bag)?;
-    written.put(name.as_str(), &text)
+    written.put_owned(name.as_str(), text)
 }
 
 // An operator of this statement, whose arguments were assigned by these operators.

@@ -48,7 +48,7 @@ fn read<F: Folder>(
     folder: &mut F,
 ) -> Result<Bag, Stop<FaultKind>>
     requires legal { IsLegal name.now }
-    requires few { columns ≤ 16 }
+    requires few { columns ≤ MAX_COLUMNS }
     ensures bag { (files : FileMap) → Agrees shelf.new files → spec.GivesBag (read_bag files name.now (integers columns)) result }
     ensures grows { (files : FileMap) → Agrees shelf.new files → Agrees shelf.old files }
     ensures agrees { IfSome (F.files folder.old) (λ files. Agrees shelf.old files → Agrees shelf.new files) }
@@ -67,7 +67,7 @@ fn read<F: Folder>(
 
 // The bag of a file's rows.
 fn bag_of(alloc: Global, bytes: &[u8], columns: u8) -> Result<Bag, Stop<FaultKind>>
-    requires { columns ≤ 16 }
+    requires { columns ≤ MAX_COLUMNS }
     ensures bag { spec.GivesBag (bag_of_rows (rows_of bytes.now (integers columns))) result }
     ensures own { IfErr result (λ stop. stop ≢ Stop.Folder) }
 {

@@ -18,6 +18,9 @@ use mit_world::{Files, Folder, OutsideStop};
 use std::alloc::Global;
 use std::marker::Model;
 
+/// The most statements of a thin script.
+pub const MAX_STATEMENTS: usize = 1000;
+
 /// A statement of a thin script. Variables are numbered by their first assignment in the text, from 0.
 #[derive(Debug, Drop)]
 pub enum ThinStep {

@@ -16,7 +16,7 @@ use Rattle.std.specs.FinMap as map
 use Rattle.std.specs.FinMap.{find, put, is_sorted}
 use Rattle.std.specs.FinMap.Entries.{is_sorted-put, by_order}
 use Rattle.mit_world.specs.Files.{FileMap, name_cmp}
-use Rattle.mit_world.specs.Entries.{name_and_bytes, named}
+use Rattle.mit_world.specs.Entries.{name_and_bytes, as_pairs}
 
 pub holds : (b : Bool) → b ≡ true → T b
 holds b e = subst T (sym e) tt
@@ -30,38 +30,38 @@ not_none x is = cc
 
 module _ {Y Z : Type 0} where
   -- an insert into the tree puts into the list of its entries
-  pub named-insert_entry : (es : List (String Y × Vec ℕ Z)) (name : String Y) (bytes : Vec ℕ Z)
-      → named (insert_entry string_cmp es name bytes) ≡ put name_cmp (string_bytes name) bytes.items (named es)
-  named-insert_entry [] name bytes = refl
-  named-insert_entry (e ∷ es) name bytes =
-      elim (string_cmp name e.0) as (λ o. named (match_ordering o ((name, bytes) ∷ e ∷ es) ((e.0, bytes) ∷ es) (e ∷ insert_entry string_cmp es name bytes))
-      ≡ by_order o ((string_bytes name, bytes.items) ∷ named (e ∷ es)) ((string_bytes e.0, bytes.items) ∷ named es) (name_and_bytes e ∷ put name_cmp (string_bytes name) bytes.items (named es))) [
+  pub as_pairs-insert_entry : (es : List (String Y × Vec ℕ Z)) (name : String Y) (bytes : Vec ℕ Z)
+      → as_pairs (insert_entry string_cmp es name bytes) ≡ put name_cmp (string_bytes name) bytes.items (as_pairs es)
+  as_pairs-insert_entry [] name bytes = refl
+  as_pairs-insert_entry (e ∷ es) name bytes =
+      elim (string_cmp name e.0) as (λ o. as_pairs (match_ordering o ((name, bytes) ∷ e ∷ es) ((e.0, bytes) ∷ es) (e ∷ insert_entry string_cmp es name bytes))
+      ≡ by_order o ((string_bytes name, bytes.items) ∷ as_pairs (e ∷ es)) ((string_bytes e.0, bytes.items) ∷ as_pairs es) (name_and_bytes e ∷ put name_cmp (string_bytes name) bytes.items (as_pairs es))) [
         | Less ↦ refl
         | Equal ↦ refl
-        | Greater ↦ ap (λ (rest : List (List ℕ × List ℕ)). name_and_bytes e ∷ rest) (named-insert_entry es name bytes)
+        | Greater ↦ ap (λ (rest : List (List ℕ × List ℕ)). name_and_bytes e ∷ rest) (as_pairs-insert_entry es name bytes)
       ]
 
   -- a look-up in the tree finds in the list of its entries
-  pub lookup-named : (es : List (String Y × Vec ℕ Z)) (name : List ℕ)
-      → option_map (λ (bytes : Vec ℕ Z). bytes.items) (lookup (is_at (λ (k : String Y). slice_cmp nat_cmp name (string_bytes k))) es) ≡ find name_cmp name (named es)
-  lookup-named [] name = refl
-  lookup-named (e ∷ es) name =
+  pub lookup-as_pairs : (es : List (String Y × Vec ℕ Z)) (name : List ℕ)
+      → option_map (λ (bytes : Vec ℕ Z). bytes.items) (lookup (is_at (λ (k : String Y). slice_cmp nat_cmp name (string_bytes k))) es) ≡ find name_cmp name (as_pairs es)
+  lookup-as_pairs [] name = refl
+  lookup-as_pairs (e ∷ es) name =
       elim (slice_cmp nat_cmp name (string_bytes e.0)) as (λ o. option_map (λ (bytes : Vec ℕ Z). bytes.items) (cond (is_eq o) (Some e.1) (lookup (is_at (λ (k : String Y). slice_cmp nat_cmp name (string_bytes k))) es))
-      ≡ cond (is_eq o) (Some e.1.items) (find name_cmp name (named es))) [
-        | Less ↦ lookup-named es name
+      ≡ cond (is_eq o) (Some e.1.items) (find name_cmp name (as_pairs es))) [
+        | Less ↦ lookup-as_pairs es name
         | Equal ↦ refl
-        | Greater ↦ lookup-named es name
+        | Greater ↦ lookup-as_pairs es name
       ]
 
   -- the entries of a clone have the same names and bytes
-  pub named-cloned : (es fs : List (String Y × Vec ℕ Z)) → AllZip (λ p q. (string_bytes q.0 ≡ string_bytes p.0) × (AllZip (λ x y. y ≡ x) p.1.items q.1.items × (vec_len q.1 ≡ vec_len p.1))) es fs
-      → named fs ≡ named es
-  named-cloned [] [] same = refl
-  named-cloned [] (f ∷ fs) same = absurd same
-  named-cloned (e ∷ es) [] same = absurd same
-  named-cloned (e ∷ es) (f ∷ fs) same =
+  pub as_pairs-cloned : (es fs : List (String Y × Vec ℕ Z)) → AllZip (λ p q. (string_bytes q.0 ≡ string_bytes p.0) × (AllZip (λ x y. y ≡ x) p.1.items q.1.items × (vec_len q.1 ≡ vec_len p.1))) es fs
+      → as_pairs fs ≡ as_pairs es
+  as_pairs-cloned [] [] same = refl
+  as_pairs-cloned [] (f ∷ fs) same = absurd same
+  as_pairs-cloned (e ∷ es) [] same = absurd same
+  as_pairs-cloned (e ∷ es) (f ∷ fs) same =
       let bytes : f.1.items ≡ e.1.items = same_from_all_zip _ e.1.items f.1.items same.0.1.0 (λ x y is. is) in
-      λ i. (same.0.0 i, bytes i) ∷ named-cloned es fs same.1 i
+      λ i. (same.0.0 i, bytes i) ∷ as_pairs-cloned es fs same.1 i
 
 -- what shows an element of a list at a place within it is there
 pub shown_within : {A B : Type 0} (view : A → B) (r : Option A) (xs : List B) (k : ℕ) → option_map view r ≡ slice_get xs k → k < length xs → IsSome r
@@ -81,12 +81,12 @@ pub sorted_from_put : (old new : List (List ℕ × List ℕ)) (name bytes : List
 sorted_from_put old new name bytes sorted is = is_true _ (subst (λ es. T (is_sorted name_cmp es)) (sym is) (is_sorted-put name_cmp nat_list_cmp_total name bytes old sorted))
 
 -- what the map of sorted entries answers
-module _ {Y Z : Type 0} (es : List (String Y × Vec ℕ Z)) (files : FileMap) (ordered : is_sorted name_cmp (named es) ≡ true) (view : map.from_sorted (named es) ≡ files) where
-  pub entries_of : map.entries files ≡ named es
-  entries_of = subst (λ (m : FileMap). map.entries m ≡ named es) view (map.entries-from_sorted name_cmp (named es) (holds _ ordered))
+module _ {Y Z : Type 0} (es : List (String Y × Vec ℕ Z)) (files : FileMap) (ordered : is_sorted name_cmp (as_pairs es) ≡ true) (view : map.from_sorted (as_pairs es) ≡ files) where
+  pub entries_of : map.entries files ≡ as_pairs es
+  entries_of = subst (λ (m : FileMap). map.entries m ≡ as_pairs es) view (map.entries-from_sorted name_cmp (as_pairs es) (holds _ ordered))
 
   pub len_of : map.len files ≡ length es
   len_of = map.len-entries files ∙ ap length entries_of ∙ length-map es name_and_bytes
 
-  pub get_of : (name : List ℕ) → map.get files name ≡ find name_cmp name (named es)
+  pub get_of : (name : List ℕ) → map.get files name ≡ find name_cmp name (as_pairs es)
   get_of name = map.get-entries files name ∙ ap (find name_cmp name) entries_of

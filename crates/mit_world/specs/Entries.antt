@@ -1,4 +1,4 @@
--- A device of the proofs: nobody has to believe it. The entries of the tree that keeps files, as pairs of a name and its bytes.
+-- Devices of the proofs: nobody has to believe them. The entries of the tree that keeps files, as pairs of a name and its bytes.
 use Rattle.std.specs.Prelude.{ℕ, List, String, Vec, map}
 use Rattle.std.specs.String.{string_bytes}
 
@@ -8,5 +8,5 @@ module _ {Y Z : Type 0} where
   name_and_bytes entry = (string_bytes entry.0, entry.1.items)
 
   -- all entries so, in their order
-  abbrev pub named : List (String Y × Vec ℕ Z) → List (List ℕ × List ℕ)
-  named entries = map name_and_bytes entries
+  abbrev pub as_pairs : List (String Y × Vec ℕ Z) → List (List ℕ × List ℕ)
+  as_pairs entries = map name_and_bytes entries

@@ -19,15 +19,15 @@ impl Model for Files {
     ghost use Rattle.std.specs.FinMap.{is_sorted};
     ghost use Rattle.std.specs.Coded.{coded_ℕ, coded_list};
     ghost use Rattle.mit_world.specs.Files.{FileMap, name_cmp};
-    ghost use Rattle.mit_world.specs.Entries.{named};
+    ghost use Rattle.mit_world.specs.Entries.{as_pairs};
 
     ghost Value = { FileMap };
 
     ghost coded = { map.code (coded_list coded_ℕ) (coded_list coded_ℕ) };
 
-    ghost view = { λ a. map.from_sorted (named a.entries.entries) };
+    ghost view = { λ a. map.from_sorted (as_pairs a.entries.entries) };
 
-    ghost invariant = { λ a. IsTrue (is_sorted name_cmp (named a.entries.entries)) };
+    ghost invariant = { λ a. IsTrue (is_sorted name_cmp (as_pairs a.entries.entries)) };
 }
 
 impl Files {
@@ -133,11 +133,11 @@ pub struct FilesIter<'a> {
 
 impl<'a> Model for FilesIter<'a> {
     ghost use Rattle.std.specs.Prelude.{ℕ, List};
-    ghost use Rattle.mit_world.specs.Entries.{named};
+    ghost use Rattle.mit_world.specs.Entries.{as_pairs};
 
     ghost Value = { List (List ℕ × List ℕ) };
 
-    ghost view = { λ a. named a.left };
+    ghost view = { λ a. as_pairs a.left };
 }
 
 impl<'a> Iterator for FilesIter<'a> {

@@ -194,7 +194,7 @@ fn is_there<R: FileSystem>(rt: &R, name: &str) -> io::Result<bool> {
 }
 
 // How many bytes the file of this name has, or none where there is no such file. Only a regular file is ever opened: to
-// open a named pipe would wait for its other end.
+// open a as_pairs pipe would wait for its other end.
 fn length_of<R: FileSystem>(rt: &R, name: &str) -> io::Result<Option<u64>> {
     check_name(name)?;
     let found = match fs::metadata(rt, name) {

@@ -70,7 +70,7 @@ pub trait Console {
     /// How many calls have failed. It never falls.
     ghost faults: { Self → ℕ };
 
-    /// Writes these bytes. After an error some of them may have been written, behind what stood there before.
+    /// Writes these bytes. After an error some of them may have been written, after what stood there before.
     fn put(&mut self, bytes: &[u8]) -> Result<(), OutsideStop>
         ensures ok { OnOk result (written self.new ≡ option_map (λ before. before ++ bytes.now) (written self.old)) }
         ensures err { OnErr result (Continues (written self.old) (written self.new)) }

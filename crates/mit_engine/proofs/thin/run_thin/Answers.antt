@@ -1,6 +1,5 @@
-use Rattle.std.proofs.Common.{◌∙◌, ◌≤◌, ◌+◌, ap, arith, refl, sym}
-use Rattle.mit_engine.specs.Thin.{actions_of}
-use Rattle.mit_engine.proofs.JobRuns.{agrees_first, agrees_more, complete_answers, fault_answers, grows_more, grows_none, run_fault, run_goes, run_starts, run_within, within_more}
+use Rattle.std.proofs.Common.{◌∙◌, arith, refl, sym}
+use Rattle.mit_engine.proofs.JobRuns.{agrees_first, agrees_more, complete_answers, fault_answers, grows_more, grows_none, run_fault, run_goes, run_starts, run_within, stopped_within}
 use Rattle.mit_engine.proofs.thin.run_thin.Goals as goal
 
 pub turns-init : goal.turns-init
@@ -35,10 +34,8 @@ returns-in-Err-Failed-clause-agrees g c =
 
 pub returns-in-Err-Failed-clause-bounded : goal.returns-in-Err-Failed-clause-bounded
 returns-in-Err-Failed-clause-bounded g c =
-    let within : c.turns.actions + 1 ≤ actions_of c.args.script.now =
-    omega (arith, (run_within c.turns.invariant.ran (sym c.in-Running.ensures)).0, ap actions_of c.steps-steps.ensures) in
-    within_more c.turns.actions (actions_of c.args.script.now) (g.S.Schedule.log c.args.schedule.now) (g.S.Schedule.log c.turns.schedule)
-    (g.S.Schedule.log c.turn.new.schedule) c.turns.invariant.picked c.turn.ensures.bounded within
+    stopped_within c.args.script.now (g.S.Schedule.log c.args.schedule.now) (g.S.Schedule.log c.turns.schedule) (g.S.Schedule.log c.turn.new.schedule)
+    c.steps-steps.ensures c.turns.invariant.ran (sym c.in-Running.ensures) c.turns.invariant.picked c.turn.ensures.bounded
 
 pub returns-in-Err-NoMemory-clause-agrees : goal.returns-in-Err-NoMemory-clause-agrees
 returns-in-Err-NoMemory-clause-agrees g c =
@@ -47,10 +44,8 @@ returns-in-Err-NoMemory-clause-agrees g c =
 
 pub returns-in-Err-NoMemory-clause-bounded : goal.returns-in-Err-NoMemory-clause-bounded
 returns-in-Err-NoMemory-clause-bounded g c =
-    let within : c.turns.actions + 1 ≤ actions_of c.args.script.now =
-    omega (arith, (run_within c.turns.invariant.ran (sym c.in-Running.ensures)).0, ap actions_of c.steps-steps.ensures) in
-    within_more c.turns.actions (actions_of c.args.script.now) (g.S.Schedule.log c.args.schedule.now) (g.S.Schedule.log c.turns.schedule)
-    (g.S.Schedule.log c.turn.new.schedule) c.turns.invariant.picked c.turn.ensures.bounded within
+    stopped_within c.args.script.now (g.S.Schedule.log c.args.schedule.now) (g.S.Schedule.log c.turns.schedule) (g.S.Schedule.log c.turn.new.schedule)
+    c.steps-steps.ensures c.turns.invariant.ran (sym c.in-Running.ensures) c.turns.invariant.picked c.turn.ensures.bounded
 
 pub returns-in-Complete-clause-answer : goal.returns-in-Complete-clause-answer
 returns-in-Complete-clause-answer g c =
