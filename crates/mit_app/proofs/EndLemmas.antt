@@ -1,16 +1,16 @@
 -- How the end of a task is what is due.
-use Rattle.std.proofs.Common.{append_assoc, ◌≡◌, ◌≢◌, ◌∙◌, ◌<◌, ◌≤◌, ◌++◌, ℕ, List, [], length, ap, sym, subst, refl, arith, inl, inr}
-use Rattle.std.specs.Prelude.{◌⊎◌, take, Bool, Option, Some, None, Result, IfSome, Ok, Err, option_map}
+use Rattle.std.proofs.Common.{append_assoc, ◌≡◌, ◌≢◌, ◌∙◌, ◌++◌, ℕ, List, [], ap, sym, subst, refl, arith, inl, inr}
+use Rattle.std.specs.Prelude.{◌⊎◌, Option, Some, None, IfSome, Err, option_map}
 use Rattle.std.specs.FinMap as fin
 use Rattle.mit_world.specs.Files.{FileMap}
 use Rattle.mit_world.specs.Outside.{Continues, Held}
 use Rattle.mit_shelf.specs.Shelf.{Agrees, Kept, kept_files}
 use Rattle.mit_shelf.specs.Staging.{stages_all}
-use Rattle.mit_app.specs.Answers.{Answers, Gains, Leaves, Publishing, PublishesAll, Stages, TellsFiles}
-use Rattle.mit_app.specs.Due.{Accepted, Accepts, Due, DueFor, Found, IsCommand, IsFound, IsFoundIn, IsUsage, Misspelled, Missing, Publishes, Refused, Rejected, RunsIn, Verdict, ended, run_verdict, status_of, task_verdict, text_of, verdict_for}
-use Rattle.mit_app.specs.Ends.{Counted, Ends, EndsStaging, EndsWell, FindsAs, IfLine, PublishesAs, ReadsAs, RunsAs, ShowsAs, StagesSome, StopsStaging, halt_line, halt_status}
+use Rattle.mit_app.specs.Answers.{Answers, Gains, Leaves, Publishing, Stages, TellsFiles}
+use Rattle.mit_app.specs.Due.{Accepts, DueFor, IsCommand, IsUsage, Publishes, Refused, Verdict, console_text}
+use Rattle.mit_app.specs.Ends.{Ends, EndsStaging, EndsWell, IfLine, StagesFront, StopsStaging, halt_line, halt_status}
 use Rattle.mit_app.specs.Lines.{outside_line, refusal_line}
-use Rattle.mit_app.specs.Statuses.{IsOutside, IsUnstaged, outside_status, refusal_status}
+use Rattle.mit_app.specs.Statuses.{IsOutside, IsUnstaged, refusal_status}
 use Rattle.mit_app.specs.declared.ends.Halt.{Halt}
 use Rattle.mit_app.specs.declared.ends.Halt.TheVariants as halt
 use Rattle.mit_app.specs.declared.ends.Outside.{Outside}
@@ -18,25 +18,30 @@ use Rattle.mit_app.specs.declared.ends.Outside.TheVariants as outside
 use Rattle.mit_app.specs.declared.ends.Refusal.{Refusal}
 use Rattle.mit_app.specs.declared.ends.Refusal.TheVariants as refusal
 use Rattle.mit_app.specs.declared.words.Task.{Task}
-use Rattle.mit_app.specs.declared.words.Task.TheVariants.{Run, Check}
+use Rattle.mit_app.specs.declared.words.Task.TheVariants.{Run}
 use Rattle.mit_app.proofs.DueLemmas.{IsRead, runs_in, some_due, some_runs_in, usage_runs_in}
 
 -- ---- the files over which a call answers
 
 -- there are files with which the shelf agrees: those that the folder tells, or those that it keeps
-pub files_for : (told : Option FileMap) (shelf : Kept) → ((kept : Kept) → Agrees kept (kept_files kept)) → IfSome told (λ files. Agrees shelf files)
+files_for : (told : Option FileMap) (shelf : Kept) → ((kept : Kept) → Agrees kept (kept_files kept)) → IfSome told (λ files. Agrees shelf files)
     → (files : FileMap) × TellsFiles told files × Agrees shelf files
 files_for None shelf law agrees = (kept_files shelf, tt, law shelf)
 files_for (Some known) shelf law agrees = (known, refl, agrees)
 
 -- a shelf that was empty has agreed with all files
-pub agrees_first : (told : Option FileMap) (old new : Kept) → ((files : FileMap) → Agrees old files) → IfSome told (λ files. Agrees old files → Agrees new files)
+agrees_first : (told : Option FileMap) (old new : Kept) → ((files : FileMap) → Agrees old files) → IfSome told (λ files. Agrees old files → Agrees new files)
     → IfSome told (λ files. Agrees new files)
 agrees_first None old new empty agrees = tt
 agrees_first (Some files) old new empty agrees = agrees (empty files)
 
-pub empty_agrees : (shelf : Kept) → shelf ≡ [] → (files : FileMap) → Agrees shelf files
+empty_agrees : (shelf : Kept) → shelf ≡ [] → (files : FileMap) → Agrees shelf files
 empty_agrees shelf none files = subst (λ (k : Kept). Agrees k files) (sym none) (λ name. tt)
+
+-- after calls that began with an empty shelf
+pub files_after : (told : Option FileMap) (first last : Kept) → first ≡ [] → ((kept : Kept) → Agrees kept (kept_files kept))
+    → IfSome told (λ files. Agrees first files → Agrees last files) → (files : FileMap) × TellsFiles told files × Agrees last files
+files_after told first last none law agrees = files_for told last law (agrees_first told first last (empty_agrees first none) agrees)
 
 -- two steps after one another
 pub agrees_both : (told told' : Option FileMap) (old mid new : Kept) → told' ≡ told → IfSome told (λ files. Agrees old files → Agrees mid files)
@@ -155,7 +160,7 @@ answers_untouched held words task name files status old new written written' rea
 -- a call whose publication stopped, at a status that is not the outbox's
 answers_some : {O : Type 0} (held : O → Option Held) (words : List (List ℕ)) (task : Task) (name : List ℕ) (files : FileMap) (status : ℕ) (old new : O) (written written' : Option (List ℕ))
     → IsRead → IsCommand words task name → IsOutside status → status ≢ 0 → status ≢ 5 → task ≡ Run
-    → EndsStaging name files (λ published report. StagesSome published (held old) (held new)) → Answers held words files status old new written written'
+    → EndsStaging name files (λ published report. StagesFront published (held old) (held new)) → Answers held words files status old new written written'
 answers_some held words task name files status old new written written' read command is none own run ends = record {
   verdict = Publishes ends.published ends.blocks;
   due = inr (task, name, command, subst (λ (t : Task). DueFor t name files (Publishes ends.published ends.blocks)) (sym run) ends.due);
@@ -171,7 +176,16 @@ answers_some held words task name files status old new written written' read com
   };
 }
 
--- how far a publication came that the outbox stopped, by the line behind it
+-- a call that was halted by the outside, before it called the outbox or while it did
+answers_perhaps : {O : Type 0} (held : O → Option Held) (words : List (List ℕ)) (task : Task) (name : List ℕ) (files : FileMap) (status : ℕ) (old new : O) (written written' : Option (List ℕ))
+    → IsRead → IsCommand words task name → IsOutside status → status ≢ 0 → status ≢ 5
+    → (new ≡ old) ⊎ ((task ≡ Run) × EndsStaging name files (λ published report. StagesFront published (held old) (held new))) → Answers held words files status old new written written'
+answers_perhaps held words task name files status old new written written' read command is none own (inl same) =
+    answers_untouched held words task name files status old new written written' read command is none own same
+answers_perhaps held words task name files status old new written written' read command is none own (inr ends) =
+    answers_some held words task name files status old new written written' read command is none own ends.0 ends.1
+
+-- how far a publication came that the outbox stopped, by the line after it
 stopped_publishing : (files : FileMap) (report : List ℕ) (status : ℕ) (old new : Option Held) (written mid written' : Option (List ℕ))
     → status ≢ 0 → StopsStaging files report old new written mid → (status ≡ 5 → Gains (outside_line outside.Outbox) mid written')
     → Publishing files report status old new written written'
@@ -200,7 +214,7 @@ answers_stopped held words task name files status old new written mid written' r
   actions = ends.actions;
   counted = runs_in words task name files ends.actions read command ends.counted;
   answered = inl is;
-  outbox = stopped_publishing ends.published (text_of (Publishes ends.published ends.blocks) ends.actions) status (held old) (held new) written mid written' none ends.stopped line;
+  outbox = stopped_publishing ends.published (console_text (Publishes ends.published ends.blocks) ends.actions) status (held old) (held new) written mid written' none ends.stopped line;
 }
 
 -- what is refused is answered with its line, or the line could not be put
@@ -235,18 +249,12 @@ answers_halted held words task name files status old new written mid written' (h
 answers_halted held words task name files status old new written mid written' (halt.Failed outside.Outbox) read command ends halts line =
     answers_stopped held words task name files status old new written mid written' read command (failed_outside outside.Outbox status halts)
     (halts_apart (halt.Failed outside.Outbox) status halts) ends.0 ends.1 line
-answers_halted held words task name files status old new written mid written' (halt.Failed outside.Console) read command (inl same) halts line =
-    answers_untouched held words task name files status old new written written' read command (failed_outside outside.Console status halts)
-    (halts_apart (halt.Failed outside.Console) status halts) (not_outbox (halt.Failed outside.Console) status (λ e. cc) halts) same
-answers_halted held words task name files status old new written mid written' (halt.Failed outside.Console) read command (inr ends) halts line =
-    answers_some held words task name files status old new written written' read command (failed_outside outside.Console status halts)
-    (halts_apart (halt.Failed outside.Console) status halts) (not_outbox (halt.Failed outside.Console) status (λ e. cc) halts) ends.0 ends.1
-answers_halted held words task name files status old new written mid written' (halt.Failed outside.NoMemory) read command (inl same) halts line =
-    answers_untouched held words task name files status old new written written' read command (failed_outside outside.NoMemory status halts)
-    (halts_apart (halt.Failed outside.NoMemory) status halts) (not_outbox (halt.Failed outside.NoMemory) status (λ e. cc) halts) same
-answers_halted held words task name files status old new written mid written' (halt.Failed outside.NoMemory) read command (inr ends) halts line =
-    answers_some held words task name files status old new written written' read command (failed_outside outside.NoMemory status halts)
-    (halts_apart (halt.Failed outside.NoMemory) status halts) (not_outbox (halt.Failed outside.NoMemory) status (λ e. cc) halts) ends.0 ends.1
+answers_halted held words task name files status old new written mid written' (halt.Failed outside.Console) read command ends halts line =
+    answers_perhaps held words task name files status old new written written' read command (failed_outside outside.Console status halts)
+    (halts_apart (halt.Failed outside.Console) status halts) (not_outbox (halt.Failed outside.Console) status (λ e. cc) halts) ends
+answers_halted held words task name files status old new written mid written' (halt.Failed outside.NoMemory) read command ends halts line =
+    answers_perhaps held words task name files status old new written written' read command (failed_outside outside.NoMemory status halts)
+    (halts_apart (halt.Failed outside.NoMemory) status halts) (not_outbox (halt.Failed outside.NoMemory) status (λ e. cc) halts) ends
 
 -- words that are no command
 pub answers_usage : {O : Type 0} (held : O → Option Held) (words : List (List ℕ)) (files : FileMap) (status : ℕ) (old new : O) (written written' : Option (List ℕ))

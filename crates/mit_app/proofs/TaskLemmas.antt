@@ -1,5 +1,5 @@
 -- How reading, running, publishing and showing make the end of a task.
-use Rattle.std.proofs.Common.{◌≡◌, ◌≢◌, ◌∙◌, ◌<◌, ◌≤◌, ◌++◌, ℕ, List, [], ap, sym, subst, refl, arith, inl, inr}
+use Rattle.std.proofs.Common.{◌≡◌, ◌∙◌, ◌++◌, ℕ, List, ap, sym, subst, refl, arith, inl, inr}
 use Rattle.std.specs.Prelude.{◌⊎◌, Bool, Option, Some, None, Result, IfErr, IfSome, Ok, Err, option_and_then, option_map, slice_get}
 use Rattle.std.proofs.lemmas.List.{take_all}
 use Rattle.std.specs.FinMap as fin
@@ -15,16 +15,14 @@ use Rattle.mit_script.specs.declared.typed.Typed.{Typed}
 use Rattle.mit_shelf.specs.Printed.{published}
 use Rattle.mit_shelf.specs.Shelf.{Agrees, Kept, bytes_at, kept}
 use Rattle.mit_shelf.specs.Staging.{stages_all}
-use Rattle.mit_app.specs.Answers.{Gains, PublishesAll, Stages}
-use Rattle.mit_app.specs.Due.{Accepted, DueFor, Found, IsCommand, IsFound, IsFoundIn, Misspelled, Missing, Publishes, Refused, Rejected, Verdict, ended, run_verdict, status_of, task_verdict, text_of, verdict_for}
-use Rattle.mit_app.specs.Ends.{Counted, Ends, EndsStaging, EndsWell, FindsAs, IfFailed, PublishesAs, ReadsAs, RunsAs, ShowsAs, StagesSome, StopsStaging}
+use Rattle.mit_app.specs.Answers.{Gains, Stages}
+use Rattle.mit_app.specs.Due.{Accepted, Found, IsFound, IsFoundIn, Misspelled, Missing, Publishes, Refused, Rejected, ending_verdict, run_verdict, task_verdict, verdict_for}
+use Rattle.mit_app.specs.Ends.{Ends, EndsStaging, FindsAs, IfOutsideFailed, PublishesAs, FindsIn, RunsAs, ShowsAs, StagesFront, StopsStaging}
 use Rattle.mit_app.specs.Lines.{report_line}
-use Rattle.mit_app.specs.Statuses.{refusal_status}
 use Rattle.mit_app.specs.ThinScript.{thin_steps}
 use Rattle.mit_app.specs.declared.ends.Halt.{Halt}
 use Rattle.mit_app.specs.declared.ends.Halt.TheVariants as halt
 use Rattle.mit_app.specs.declared.ends.Outside.TheVariants as outside
-use Rattle.mit_app.specs.declared.ends.Refusal.{Refusal}
 use Rattle.mit_app.specs.declared.ends.Refusal.TheVariants as refusal
 use Rattle.mit_app.specs.declared.words.Task.{Task}
 use Rattle.mit_app.specs.declared.words.Task.TheVariants.{Run, Check}
@@ -34,7 +32,7 @@ use Rattle.mit_app.proofs.EndLemmas.{HaltsWith}
 -- ---- reading
 
 -- what a text is read as is what is found under its name
-pub finds : (name text : List ℕ) (files : FileMap) (result : Result Typed Halt) → fin.get files name ≡ Some text → ReadsAs text result → FindsAs name files result
+pub finds : (name text : List ℕ) (files : FileMap) (result : Result Typed Halt) → fin.get files name ≡ Some text → FindsIn text result → FindsAs name files result
 finds name text files (Ok typed) got reads = subst (λ (look : Option (List ℕ)). IsFoundIn look (Accepted typed.script)) (sym got) reads
 finds name text files (Err (halt.Refused why)) got reads =
     λ task. (reads.0, subst (λ (look : Option (List ℕ)). IsFoundIn look reads.0) (sym got) reads.1, reads.2 task name files)
@@ -51,7 +49,7 @@ same_bytes one other e = cc
 
 -- a text that is kept under the name
 pub finds_kept : (shelf : Kept) (files : FileMap) (name asked text bytes : List ℕ) (place : ℕ) (result : Result Typed Halt) → Agrees shelf files → asked ≡ name
-    → slice_get shelf place ≡ Some (asked, Some bytes) → kept shelf asked ≡ Some (Some bytes) → bytes_at shelf place ≡ Some text → ReadsAs text result
+    → slice_get shelf place ≡ Some (asked, Some bytes) → kept shelf asked ≡ Some (Some bytes) → bytes_at shelf place ≡ Some text → FindsIn text result
     → FindsAs name files result
 finds_kept shelf files name asked text bytes place result agrees same at is read reads =
     let text_is : bytes ≡ text = same_bytes bytes text (sym (ap (option_and_then (λ (entry : List ℕ × Option (List ℕ)). entry.1)) at) ∙ read) in
@@ -67,7 +65,7 @@ finds_none name files result h is got (inr memory) =
     let P : Result Typed Halt → Type 0 = λ r. FindsAs name files r in
     subst P (sym (is ∙ ap Err memory)) tt
 
-pub read_failed : (result : Result Typed Halt) (folder : Type 0) → IfErr result (λ h. IfFailed h ⊥ ⊥ ⊥) → IfErr result (λ h. IfFailed h folder ⊥ ⊥)
+pub read_failed : (result : Result Typed Halt) (folder : Type 0) → IfErr result (λ h. IfOutsideFailed h ⊥ ⊥ ⊥) → IfErr result (λ h. IfOutsideFailed h folder ⊥ ⊥)
 read_failed (Ok typed) folder own = tt
 read_failed (Err (halt.Refused why)) folder own = tt
 read_failed (Err (halt.Failed outside.Folder)) folder own = absurd own
@@ -77,7 +75,7 @@ read_failed (Err (halt.Failed outside.NoMemory)) folder own = tt
 
 -- a script that was not had
 pub reading_ends : {O : Type 0} (held : O → Option Held) (task : Task) (name : List ℕ) (files : FileMap) (outbox : O) (written : Option (List ℕ)) (h : Halt) (folder : Type 0)
-    → IfFailed h folder ⊥ ⊥ → FindsAs name files (Err h) → Ends held task name files outbox outbox written written (Err h)
+    → IfOutsideFailed h folder ⊥ ⊥ → FindsAs name files (Err h) → Ends held task name files outbox outbox written written (Err h)
 reading_ends held task name files outbox written (halt.Refused why) folder cause finds = (finds task, refl, refl)
 reading_ends held task name files outbox written (halt.Failed outside.Folder) folder cause finds = (refl, refl)
 reading_ends held task name files outbox written (halt.Failed outside.Outbox) folder cause finds = absurd cause
@@ -95,7 +93,7 @@ same_steps one other e = cc
 pub ended_runs : (script : Script) (files : FileMap) (steps : List ThinStep) (done : Done) → thin_steps script ≡ Some steps
     → AnswersEnding steps (exec files steps) (Ok done) → RunsAs script files (Ok done)
 ended_runs script files steps done thin answer =
-    let finished : run_verdict files (thin_steps script) ≡ Publishes (published answer.0) 1 = ap (run_verdict files) thin ∙ ap ended answer.1 in (
+    let finished : run_verdict files (thin_steps script) ≡ Publishes (published answer.0) 1 = ap (run_verdict files) thin ∙ ap ending_verdict answer.1 in (
       finished ∙ ap (λ (m : FileMap). Publishes m 1) (sym answer.2) ∙ ap (Publishes done.files) (sym answer.3),
       λ other is. answer.4 ∙ ap actions_of (same_steps steps other (sym thin ∙ is)),
     )
@@ -103,12 +101,12 @@ ended_runs script files steps done thin answer =
 pub faulty_runs : (script : Script) (files : FileMap) (steps : List ThinStep) (fault : ScriptFault) → thin_steps script ≡ Some steps
     → (exec files steps ≡ Faulted fault.statement fault.kind) × (fault.decisions ≡ 0) → RunsAs script files (Err (halt.Refused (refusal.Fault fault)))
 faulty_runs script files steps fault thin answer =
-    ap (run_verdict files) thin ∙ ap ended answer.0
+    ap (run_verdict files) thin ∙ ap ending_verdict answer.0
     ∙ ap (λ (d : ℕ). Refused (refusal.Fault (record { statement = fault.statement; decisions = d; kind = fault.kind }))) (sym answer.1)
 
 -- a run that did not come to its end
 pub running_ends : {O : Type 0} (held : O → Option Held) (name : List ℕ) (files : FileMap) (outbox : O) (written : Option (List ℕ)) (script : Script) (h : Halt) (folder : Type 0)
-    → IfFailed h folder ⊥ ⊥ → IsFound files name (Accepted script) → RunsAs script files (Err h) → Ends held Run name files outbox outbox written written (Err h)
+    → IfOutsideFailed h folder ⊥ ⊥ → IsFound files name (Accepted script) → RunsAs script files (Err h) → Ends held Run name files outbox outbox written written (Err h)
 running_ends held name files outbox written script (halt.Refused why) folder cause found runs = ((Accepted script, found, sym runs), refl, refl)
 running_ends held name files outbox written script (halt.Failed outside.Folder) folder cause found runs = (refl, refl)
 running_ends held name files outbox written script (halt.Failed outside.Outbox) folder cause found runs = absurd cause
@@ -134,7 +132,7 @@ all_staged files old new is =
     is ∙ ap (λ (those : List (List ℕ × List ℕ)). option_map (stages_all those) old)
     (sym (take_all (fin.len files) (fin.entries files) (omega (arith, fin.len-entries files))))
 
-pub some_staged : (files : FileMap) (old new : Option Held) → new ≡ option_map (stages_all (fin.entries files)) old → StagesSome files old new
+pub some_staged : (files : FileMap) (old new : Option Held) → new ≡ option_map (stages_all (fin.entries files)) old → StagesFront files old new
 some_staged files old new is = (fin.len files, omega arith, all_staged files old new is)
 
 pub gains_text : (line text : List ℕ) (old new : Option (List ℕ)) → text ≡ line → new ≡ option_map (λ before. before ++ text) old → Gains line old new
@@ -165,14 +163,14 @@ publishing_ends held name files old new written written' script done (Err (halt.
 publishing_ends held name files old new written written' script done (Err (halt.Failed outside.Outbox)) found runs publishes =
     (refl, staging name files script done (λ published report. StopsStaging published report (held old) (held new) written written') found runs publishes)
 publishing_ends held name files old new written written' script done (Err (halt.Failed outside.Console)) found runs publishes =
-    inr (refl, staging name files script done (λ published report. StagesSome published (held old) (held new)) found runs publishes)
+    inr (refl, staging name files script done (λ published report. StagesFront published (held old) (held new)) found runs publishes)
 publishing_ends held name files old new written written' script done (Err (halt.Failed outside.NoMemory)) found runs publishes =
-    inr (refl, staging name files script done (λ published report. StagesSome published (held old) (held new)) found runs publishes)
+    inr (refl, staging name files script done (λ published report. StagesFront published (held old) (held new)) found runs publishes)
 
 -- ---- showing
 
 pub reading_shows : (shown : Bool) (name : List ℕ) (files : FileMap) (written : Option (List ℕ)) (h : Halt) (folder : Type 0)
-    → IfFailed h folder ⊥ ⊥ → FindsAs name files (Err h) → ShowsAs shown name files written written (Err h)
+    → IfOutsideFailed h folder ⊥ ⊥ → FindsAs name files (Err h) → ShowsAs shown name files written written (Err h)
 reading_shows shown name files written (halt.Refused why) folder cause finds = (finds (Check shown), refl)
 reading_shows shown name files written (halt.Failed outside.Folder) folder cause finds = refl
 reading_shows shown name files written (halt.Failed outside.Outbox) folder cause finds = absurd cause
@@ -200,7 +198,7 @@ showing_ends held shown name files outbox written written' (Err (halt.Failed out
 
 -- ---- the usage line
 
-ended_apart : (ending : Ending) → Refused refusal.Usage ≡ ended ending → ⊥
+ended_apart : (ending : Ending) → Refused refusal.Usage ≡ ending_verdict ending → ⊥
 ended_apart (Faulted statement kind) e = cc
 ended_apart (Finished writes) e = cc
 

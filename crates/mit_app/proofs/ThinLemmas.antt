@@ -8,6 +8,7 @@ use Rattle.std.proofs.lemmas.List.Elements.{All-drop, All-head, All-take}
 use Rattle.std.proofs.lemmas.Grind.{flat_map-append}
 use Rattle.std.proofs.lemmas.Option.{slice_get-get_or, slice_get_within, unwrap_or-slice_get}
 use Rattle.std.proofs.lemmas.Bool.{and_parts, false≢true, ltb-true, leb-true, lt-ltb, le-ltb}
+use Rattle.mit_rows.specs.declared.row.TheConstants.{MAX_COLUMNS}
 use Rattle.mit_rows.specs.declared.value.ColType.{ColType}
 use Rattle.mit_rows.specs.declared.value.ColType.TheVariants.{Int}
 use Rattle.mit_rows.specs.declared.value.Value.{Value}
@@ -21,7 +22,7 @@ use Rattle.mit_ops.specs.Results.{bag, result, same_types, too_large, too_many_c
 use Rattle.mit_ops.specs.declared.kinds.OpSpec.{OpSpec}
 use Rattle.mit_ops.specs.declared.kinds.OpSpec.TheVariants as kind
 use Rattle.mit_ops.specs.declared.types.VarType.{VarType}
-use Rattle.mit_script.specs.Accepted.{Check, Known, and_then, assigned_by, assigning, at_start, bags_of, check_of, check_step, checked, fault_at, fault_or, first_type, given, in_order, is_assigned, is_kept, judged, passed, type_of, typed_or_code, written_by}
+use Rattle.mit_script.specs.Accepted.{Check, Known, and_then, assigned_by, assigning, at_start, bag_types, check_of, check_step, checked, fault_at, fault_or, first_type, type_or_unset, in_order, is_assigned, is_kept, judged, passed, type_of, typed_or_code, written_by}
 use Rattle.mit_script.specs.Trees.{Head, IsFormed, IsFormedHead, IsNumbered, assigns, head_step, heads_in, is_in_order, variables_of, writes}
 use Rattle.mit_script.specs.declared.tree.Script.{Script}
 use Rattle.mit_script.specs.declared.tree.Stmt.{Stmt, out-Stmt}
@@ -33,6 +34,7 @@ use Rattle.mit_script.specs.declared.typed.CheckCode.{CheckCode}
 use Rattle.mit_script.specs.declared.typed.CheckCode.TheVariants as code
 use Rattle.mit_shelf.specs.Names.{IsLegal, is_legal}
 use Rattle.mit_engine.specs.Thin.{FormedFrom, IsFormedThin, MayAssign, columns_after}
+use Rattle.mit_engine.specs.declared.thin.TheConstants.{MAX_STATEMENTS}
 use Rattle.mit_engine.specs.declared.thin.ThinStep.{ThinStep}
 use Rattle.mit_engine.specs.declared.thin.ThinStep.TheVariants as step
 use Rattle.mit_app.specs.ThinScript.{assigned_step, before_steps, is_read, name_of, name_of_layer, name_of_value, step_of, step_of_layer, steps_of, thin_steps, written_step}
@@ -232,7 +234,7 @@ order_past p next (arg ∷ args) rest below all ordered =
 record Judged (known : Known) (operator : OpSpec) (args : List ℕ) (type : VarType) : Type 0 where
   all : list_all (is_assigned known.assigned) args ≡ true
   captures : List ColType
-  gives : result operator (bags_of known operator args) captures ≡ Some type
+  gives : result operator (bag_types known operator args) captures ≡ Some type
 
 -- an operator that passes has assigned arguments and a type
 judged_from : (assigned scalars large many wide : Bool) (found : Option VarType) (type : VarType)
@@ -250,13 +252,13 @@ judged_from true true false false false (Some found) type is = (refl, cc)
 -- the same of what a check says of an operator
 judged_ok : (known : Known) (operator : OpSpec) (args : List ℕ) (type : VarType) → judged known operator args ≡ Ok type → Judged known operator args type
 judged_ok known operator args type is =
-    let both = judged_from _ _ _ _ _ (result operator (bags_of known operator args) _) type is in
+    let both = judged_from _ _ _ _ _ (result operator (bag_types known operator args) _) type is in
     record { all = both.0; captures = _; gives = both.1 }
 
 -- ---- the arguments
 
 -- the columns of a variable that was assigned
-given_count : (found : Option VarType) (has : Option ℕ) (count : ℕ) → columns_in found ≡ has → has ≡ Some count → has ≡ Some (length (given found).cols)
+given_count : (found : Option VarType) (has : Option ℕ) (count : ℕ) → columns_in found ≡ has → has ≡ Some count → has ≡ Some (length (type_or_unset found).cols)
 given_count None has count same some = absurd cc
 given_count (Some type) has count same some = sym same
 
@@ -360,12 +362,12 @@ unfolding FormedFrom
 read_next variables columns known after target name types args rest one here is =
     let read = given_by (is_read types) (option_map (λ file. step.Read target file (length types)) (name_of name)) one is in
     let named = mapped_from (λ file. step.Read target file (length types)) (name_of name) one read.1 in
-    let ints = and_parts (nat_lt 0 (length types) && nat_le (length types) 16) (list_all (same_type Int) types) read.0 in
-    let many = and_parts (nat_lt 0 (length types)) (nat_le (length types) 16) ints.0 in
+    let ints = and_parts (nat_lt 0 (length types) && nat_le (length types) MAX_COLUMNS) (list_all (same_type Int) types) read.0 in
+    let many = and_parts (nat_lt 0 (length types)) (nat_le (length types) MAX_COLUMNS) ints.0 in
     let same : length here.type.cols ≡ length types = ap length (read_cols name types [] here.judged.captures here.type here.judged.gives) in
     let legal = layer_named (out-Expr name) named.0 named.1 in
     let some : 1 ≤ length types = omega (arith, ltb-true 0 (length types) many.0) in
-    let most : length types ≤ 16 = leb-true (length types) 16 many.1 in
+    let most : length types ≤ MAX_COLUMNS = leb-true (length types) MAX_COLUMNS many.1 in
     record {
       later = columns_after columns target (length here.type.cols);
       agrees = here.agrees;
@@ -546,8 +548,8 @@ agrees_start names = record {
 pub thin_formed : (script : Script) (types : List VarType) (steps : List ThinStep) → IsFormed script → IsNumbered script
     → checked script ≡ Ok types → thin_steps script ≡ Some steps → IsFormedThin steps
 thin_formed script types steps formed numbered accepted is =
-    let short = given_by (nat_le (length script.body) 1000) (steps_of script.body) steps is in
-    let pass = and_from (in_order (map check_of script.body) (at_start script.names)) (λ last. Ok (map given last.types)) types accepted in (
-      omega (arith, leb-true (length script.body) 1000 short.0, steps_long script.body steps short.1),
+    let short = given_by (nat_le (length script.body) MAX_STATEMENTS) (steps_of script.body) steps is in
+    let pass = and_from (in_order (map check_of script.body) (at_start script.names)) (λ last. Ok (map type_or_unset last.types)) types accepted in (
+      omega (arith, leb-true (length script.body) MAX_STATEMENTS short.0, steps_long script.body steps short.1),
       body_formed (length script.names) [] (at_start script.names) pass.0 script.body steps (agrees_start script.names) formed.formed numbered pass.1 short.1,
     )

@@ -4,7 +4,7 @@ use Rattle.std.specs.FinMap as fin
 use Rattle.mit_world.specs.Files.{FileMap}
 use Rattle.mit_world.specs.Outside.{Held, publishes}
 use Rattle.mit_shelf.specs.Staging.{stages_all}
-use Rattle.mit_app.specs.Due.{Accepts, Due, Publishes, Refused, RunsIn, Verdict, status_of, text_of}
+use Rattle.mit_app.specs.Due.{Accepts, Due, Publishes, Refused, RunsIn, Verdict, status_of, console_text}
 use Rattle.mit_app.specs.Lines.{outside_line}
 use Rattle.mit_app.specs.Statuses.{IsOutside, outside_status}
 use Rattle.mit_app.specs.declared.ends.Outside.TheVariants as outside
@@ -43,7 +43,7 @@ abbrev pub Leaves : {O : Type 0} → (O → Option Held) → Verdict → ℕ →
 Leaves held (Refused why) actions status old new written written' = (new ≡ old) × (status ≢ outside_status outside.Outbox)
 Leaves held (Accepts count shown) actions status old new written written' = (new ≡ old) × (status ≢ outside_status outside.Outbox)
 Leaves held (Publishes files blocks) actions status old new written written' =
-    Publishing files (text_of (Publishes files blocks) actions) status (held old) (held new) written written'
+    Publishing files (console_text (Publishes files blocks) actions) status (held old) (held new) written written'
 
 -- a call over these words and files: a verdict is due, and the status is its own, with its text on the console, or one of the outside
 pub record Answers {O : Type 0} (held : O → Option Held) (words : List (List ℕ)) (files : FileMap) (status : ℕ) (old new : O)
@@ -52,5 +52,5 @@ pub record Answers {O : Type 0} (held : O → Option Held) (words : List (List �
   pub due : Due words files verdict
   pub actions : ℕ
   pub counted : RunsIn words files actions
-  pub answered : IsOutside status ⊎ ((status ≡ status_of verdict) × Gains (text_of verdict actions) written written')
+  pub answered : IsOutside status ⊎ ((status ≡ status_of verdict) × Gains (console_text verdict actions) written written')
   pub outbox : Leaves held verdict actions status old new written written'

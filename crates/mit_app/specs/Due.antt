@@ -82,13 +82,13 @@ pub data Verdict : Type 0 where
   Accepts : ℕ → List ℕ → Verdict
 
 -- the step-by-step interpreter ended so; a thin script has one block, and no decisions
-abbrev pub ended : Ending → Verdict
-ended (Faulted statement kind) = Refused (refusal.Fault (record { statement = statement; decisions = 0; kind = kind }))
-ended (Finished writes) = Publishes (published writes) 1
+abbrev pub ending_verdict : Ending → Verdict
+ending_verdict (Faulted statement kind) = Refused (refusal.Fault (record { statement = statement; decisions = 0; kind = kind }))
+ending_verdict (Finished writes) = Publishes (published writes) 1
 
 abbrev pub run_verdict : FileMap → Option (List ThinStep) → Verdict
 run_verdict files None = Refused refusal.NotThin
-run_verdict files (Some steps) = ended (exec files steps)
+run_verdict files (Some steps) = ending_verdict (exec files steps)
 
 -- what a task makes of an accepted script
 abbrev pub task_verdict : Task → FileMap → Script → Verdict
@@ -129,7 +129,7 @@ status_of (Publishes files blocks) = 0
 status_of (Accepts count shown) = 0
 
 -- the text that the console gains, where a run took so many actions
-abbrev pub text_of : Verdict → ℕ → List ℕ
-text_of (Refused why) actions = refusal_line why
-text_of (Publishes files blocks) actions = report_line (fin.len files) blocks actions
-text_of (Accepts count shown) actions = accepted_line count ++ shown
+abbrev pub console_text : Verdict → ℕ → List ℕ
+console_text (Refused why) actions = refusal_line why
+console_text (Publishes files blocks) actions = report_line (fin.len files) blocks actions
+console_text (Accepts count shown) actions = accepted_line count ++ shown

@@ -1,4 +1,4 @@
--- The words of the private contracts inside the top call: how its parts end. Nobody has to believe them.
+-- Devices of the proofs: nobody has to believe them. How the parts of the top call end, in the words of their private contracts.
 use Rattle.std.specs.Prelude.{◌≡◌, ⊤, ◌⊎◌, ◌<◌, ◌≤◌, ℕ, List, Bool, Option, Some, Result, Ok, Err}
 use Rattle.std.specs.FinMap as fin
 use Rattle.mit_world.specs.Files.{FileMap}
@@ -9,13 +9,12 @@ use Rattle.mit_engine.specs.declared.thin.ThinStep.{ThinStep}
 use Rattle.mit_script.specs.declared.tree.Script.{Script}
 use Rattle.mit_script.specs.declared.typed.Typed.{Typed}
 use Rattle.mit_app.specs.Answers.{Gains, Leaves, PublishesAll, Stages}
-use Rattle.mit_app.specs.Due.{Accepted, DueFor, Found, IsFound, IsFoundIn, Publishes, Refused, Verdict, status_of, task_verdict, text_of, verdict_for}
+use Rattle.mit_app.specs.Due.{Accepted, DueFor, Found, IsFound, IsFoundIn, Publishes, Refused, Verdict, status_of, task_verdict, console_text, verdict_for}
 use Rattle.mit_app.specs.Lines.{outside_line, refusal_line}
 use Rattle.mit_app.specs.Statuses.{outside_status, refusal_status}
 use Rattle.mit_app.specs.ThinScript.{thin_steps}
 use Rattle.mit_app.specs.declared.ends.Halt.{Halt}
 use Rattle.mit_app.specs.declared.ends.Halt.TheVariants as halt
-use Rattle.mit_app.specs.declared.ends.Outside.{Outside}
 use Rattle.mit_app.specs.declared.ends.Outside.TheVariants as outside
 use Rattle.mit_app.specs.declared.words.Task.{Task}
 use Rattle.mit_app.specs.declared.words.Task.TheVariants.{Run, Check}
@@ -31,12 +30,12 @@ halt_line (halt.Refused why) = refusal_line why
 halt_line (halt.Failed why) = outside_line why
 
 -- a fact where the folder failed, where the outbox failed and where the console failed
-abbrev pub IfFailed : Halt → Type 0 → Type 0 → Type 0 → Type 0
-IfFailed (halt.Refused why) folder outbox console = ⊤
-IfFailed (halt.Failed outside.Folder) folder outbox console = folder
-IfFailed (halt.Failed outside.Outbox) folder outbox console = outbox
-IfFailed (halt.Failed outside.Console) folder outbox console = console
-IfFailed (halt.Failed outside.NoMemory) folder outbox console = ⊤
+abbrev pub IfOutsideFailed : Halt → Type 0 → Type 0 → Type 0 → Type 0
+IfOutsideFailed (halt.Refused why) folder outbox console = ⊤
+IfOutsideFailed (halt.Failed outside.Folder) folder outbox console = folder
+IfOutsideFailed (halt.Failed outside.Outbox) folder outbox console = outbox
+IfOutsideFailed (halt.Failed outside.Console) folder outbox console = console
+IfOutsideFailed (halt.Failed outside.NoMemory) folder outbox console = ⊤
 
 -- a fact where there is a line to put
 abbrev pub IfLine : Halt → Type 0 → Type 0
@@ -53,11 +52,11 @@ IsCheckTask (Check shown) = ⊤
 -- ---- reading, running and publishing
 
 -- an accepted script is found in a text, or what is found there is refused for every task
-abbrev pub ReadsAs : List ℕ → Result Typed Halt → Type 0
-ReadsAs text (Ok typed) = IsFoundIn (Some text) (Accepted typed.script)
-ReadsAs text (Err (halt.Refused why)) = (found : Found) × IsFoundIn (Some text) found
+abbrev pub FindsIn : List ℕ → Result Typed Halt → Type 0
+FindsIn text (Ok typed) = IsFoundIn (Some text) (Accepted typed.script)
+FindsIn text (Err (halt.Refused why)) = (found : Found) × IsFoundIn (Some text) found
     × ((task : Task) (name : List ℕ) (files : FileMap) → Refused why ≡ verdict_for task name files found)
-ReadsAs text (Err (halt.Failed why)) = ⊤
+FindsIn text (Err (halt.Failed why)) = ⊤
 
 -- the same under a name
 abbrev pub FindsAs : List ℕ → FileMap → Result Typed Halt → Type 0
@@ -78,8 +77,8 @@ RunsAs script files (Err (halt.Refused why)) = task_verdict Run files script ≡
 RunsAs script files (Err (halt.Failed why)) = ⊤
 
 -- so many of these files are staged
-abbrev pub StagesSome : FileMap → Option Held → Option Held → Type 0
-StagesSome files old new = (count : ℕ) × (count ≤ fin.len files) × Stages count files old new
+abbrev pub StagesFront : FileMap → Option Held → Option Held → Type 0
+StagesFront files old new = (count : ℕ) × (count ≤ fin.len files) × Stages count files old new
 
 -- the same, and the report was printed exactly where all of them are
 abbrev pub StopsStaging : FileMap → List ℕ → Option Held → Option Held → Option (List ℕ) → Option (List ℕ) → Type 0
@@ -93,13 +92,13 @@ PublishesAs files report old new written written' (Ok _) = PublishesAll files ol
 PublishesAs files report old new written written' (Err (halt.Refused why)) = ⊥
 PublishesAs files report old new written written' (Err (halt.Failed outside.Folder)) = ⊥
 PublishesAs files report old new written written' (Err (halt.Failed outside.Outbox)) = StopsStaging files report old new written written'
-PublishesAs files report old new written written' (Err (halt.Failed outside.Console)) = StagesSome files old new
-PublishesAs files report old new written written' (Err (halt.Failed outside.NoMemory)) = StagesSome files old new
+PublishesAs files report old new written written' (Err (halt.Failed outside.Console)) = StagesFront files old new
+PublishesAs files report old new written written' (Err (halt.Failed outside.NoMemory)) = StagesFront files old new
 
 -- an accepted script was shown, or not
 abbrev pub ShowsAs : Bool → List ℕ → FileMap → Option (List ℕ) → Option (List ℕ) → Result (Unit {0}) Halt → Type 0
 ShowsAs shown name files written written' (Ok _) =
-    (script : Script) × IsFound files name (Accepted script) × Gains (text_of (task_verdict (Check shown) files script) 0) written written'
+    (script : Script) × IsFound files name (Accepted script) × Gains (console_text (task_verdict (Check shown) files script) 0) written written'
 ShowsAs shown name files written written' (Err (halt.Refused why)) = DueFor (Check shown) name files (Refused why) × (written' ≡ written)
 ShowsAs shown name files written written' (Err (halt.Failed outside.Folder)) = written' ≡ written
 ShowsAs shown name files written written' (Err (halt.Failed outside.Outbox)) = ⊥
@@ -115,7 +114,7 @@ pub record EndsWell {O : Type 0} (held : O → Option Held) (task : Task) (name 
   pub well : status_of verdict ≡ 0
   pub actions : ℕ
   pub counted : Counted name files actions
-  pub text : Gains (text_of verdict actions) written written'
+  pub text : Gains (console_text verdict actions) written written'
   pub outbox : Leaves held verdict actions 0 old new written written'
 
 -- a publication was due and stopped
@@ -125,7 +124,7 @@ pub record EndsStaging (name : List ℕ) (files : FileMap) (Stopped : FileMap �
   pub due : DueFor Run name files (Publishes published blocks)
   pub actions : ℕ
   pub counted : Counted name files actions
-  pub stopped : Stopped published (text_of (Publishes published blocks) actions)
+  pub stopped : Stopped published (console_text (Publishes published blocks) actions)
 
 -- a task with a script of this name ended; where nothing was published, outbox and console may be as they were
 abbrev pub Ends : {O : Type 0} → (O → Option Held) → Task → List ℕ → FileMap → O → O → Option (List ℕ) → Option (List ℕ) → Result (Unit {0}) Halt → Type 0
@@ -135,6 +134,6 @@ Ends held task name files old new written written' (Err (halt.Failed outside.Fol
 Ends held task name files old new written written' (Err (halt.Failed outside.Outbox)) =
     (task ≡ Run) × EndsStaging name files (λ published report. StopsStaging published report (held old) (held new) written written')
 Ends held task name files old new written written' (Err (halt.Failed outside.Console)) =
-    (new ≡ old) ⊎ ((task ≡ Run) × EndsStaging name files (λ published report. StagesSome published (held old) (held new)))
+    (new ≡ old) ⊎ ((task ≡ Run) × EndsStaging name files (λ published report. StagesFront published (held old) (held new)))
 Ends held task name files old new written written' (Err (halt.Failed outside.NoMemory)) =
-    (new ≡ old) ⊎ ((task ≡ Run) × EndsStaging name files (λ published report. StagesSome published (held old) (held new)))
+    (new ≡ old) ⊎ ((task ≡ Run) × EndsStaging name files (λ published report. StagesFront published (held old) (held new)))

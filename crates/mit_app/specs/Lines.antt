@@ -10,17 +10,17 @@ use Rattle.mit_app.specs.declared.ends.Refusal.{Refusal}
 use Rattle.mit_app.specs.declared.ends.Refusal.TheVariants as refusal
 
 -- a line of these parts
-abbrev pub line : List (List ℕ) → List ℕ
-line [] = 10 ∷ []
-line (part ∷ parts) = part ++ line parts
+abbrev pub line_of_parts : List (List ℕ) → List ℕ
+line_of_parts [] = 10 ∷ []
+line_of_parts (part ∷ parts) = part ++ line_of_parts parts
 
 -- how a run ended: its files, the blocks that it entered and its actions
 abbrev pub report_line : ℕ → ℕ → ℕ → List ℕ
 report_line files blocks actions =
-    line (codes "files " ∷ decimal files ∷ codes ", blocks " ∷ decimal blocks ∷ codes ", actions " ∷ decimal actions ∷ [])
+    line_of_parts (codes "files " ∷ decimal files ∷ codes ", blocks " ∷ decimal blocks ∷ codes ", actions " ∷ decimal actions ∷ [])
 
 abbrev pub accepted_line : ℕ → List ℕ
-accepted_line count = line (codes "accepted, statements " ∷ decimal count ∷ [])
+accepted_line count = line_of_parts (codes "accepted, statements " ∷ decimal count ∷ [])
 
 abbrev pub kind_words : FaultKind → List ℕ
 kind_words kind.Overflow = codes "overflow"
@@ -43,18 +43,18 @@ code_words code.WrongType = codes "wrong type"
 
 -- what is refused
 abbrev pub refusal_line : Refusal → List ℕ
-refusal_line refusal.Usage = line (codes "usage: mitos run|step|check|plan SCRIPT, or mitos demo DAYS" ∷ [])
-refusal_line (refusal.Absent name) = line (codes "no such file: " ∷ name ∷ [])
-refusal_line (refusal.Syntax place) = line (codes "script refused: syntax at byte " ∷ decimal place ∷ [])
+refusal_line refusal.Usage = line_of_parts (codes "usage: mitos run|step|check|plan SCRIPT, or mitos demo DAYS" ∷ [])
+refusal_line (refusal.Absent name) = line_of_parts (codes "no such file: " ∷ name ∷ [])
+refusal_line (refusal.Syntax place) = line_of_parts (codes "script refused: syntax at byte " ∷ decimal place ∷ [])
 refusal_line (refusal.Statement statement code) =
-    line (codes "script refused: statement " ∷ decimal statement ∷ codes ", " ∷ code_words code ∷ [])
-refusal_line refusal.NotThin = line (codes "script refused: not a thin script" ∷ [])
+    line_of_parts (codes "script refused: statement " ∷ decimal statement ∷ codes ", " ∷ code_words code ∷ [])
+refusal_line refusal.NotThin = line_of_parts (codes "script refused: not a thin script" ∷ [])
 refusal_line (refusal.Fault fault) =
-    line (codes "fault: statement " ∷ decimal fault.statement ∷ codes ", decisions " ∷ decimal fault.decisions ∷ codes ", " ∷ kind_words fault.kind ∷ [])
+    line_of_parts (codes "fault: statement " ∷ decimal fault.statement ∷ codes ", decisions " ∷ decimal fault.decisions ∷ codes ", " ∷ kind_words fault.kind ∷ [])
 
 -- what failed outside; where the console failed there is none
 abbrev pub outside_line : Outside → List ℕ
-outside_line outside.Folder = line (codes "folder fault" ∷ [])
-outside_line outside.Outbox = line (codes "outbox fault" ∷ [])
+outside_line outside.Folder = line_of_parts (codes "folder fault" ∷ [])
+outside_line outside.Outbox = line_of_parts (codes "outbox fault" ∷ [])
 outside_line outside.Console = []
-outside_line outside.NoMemory = line (codes "out of memory" ∷ [])
+outside_line outside.NoMemory = line_of_parts (codes "out of memory" ∷ [])

@@ -1,6 +1,7 @@
 -- Which scripts run today: lists of reads of integers, unions and writes, with the names of their files written out.
 use Rattle.std.specs.Prelude.{ℕ, List, [], ◌∷◌, length, Bool, nat_le, nat_lt, ◌&&◌, Option, Some, None, option_map, slice_index_or, if◌then◌else◌}
 use Rattle.std.specs.List.{list_all}
+use Rattle.mit_rows.specs.declared.row.TheConstants.{MAX_COLUMNS}
 use Rattle.mit_rows.specs.declared.value.ColType.{ColType}
 use Rattle.mit_rows.specs.declared.value.ColType.TheVariants.{Int}
 use Rattle.mit_rows.specs.declared.value.Value.{Value}
@@ -16,7 +17,7 @@ use Rattle.mit_script.specs.declared.tree.Stmt.{Stmt, out-Stmt}
 use Rattle.mit_script.specs.declared.tree.Stmt.TheOpen.{Stmt-F}
 use Rattle.mit_script.specs.declared.tree.Stmt.TheOpen as stmt
 use Rattle.mit_shelf.specs.Names.{is_legal}
-use Rattle.mit_engine.specs.Thin.{most_columns, most_statements}
+use Rattle.mit_engine.specs.declared.thin.TheConstants.{MAX_STATEMENTS}
 use Rattle.mit_engine.specs.declared.thin.ThinStep.{ThinStep}
 use Rattle.mit_engine.specs.declared.thin.ThinStep.TheVariants as step
 
@@ -37,9 +38,9 @@ name_of e = name_of_layer (out-Expr e)
 abbrev pub argument_at : List ℕ → ℕ → ℕ
 argument_at args place = slice_index_or args place 0
 
--- from one to 16 integers
+-- integers alone, and from one to the most columns
 abbrev pub is_read : List ColType → Bool
-is_read types = nat_lt 0 (length types) && nat_le (length types) most_columns && list_all (same_type Int) types
+is_read types = nat_lt 0 (length types) && nat_le (length types) MAX_COLUMNS && list_all (same_type Int) types
 
 -- an assignment as a thin step, and a write
 abbrev pub assigned_step : ℕ → OpSpec → List ℕ → Option ThinStep
@@ -71,4 +72,4 @@ steps_of (first ∷ more) = before_steps (step_of first) (steps_of more)
 
 -- the steps of a script that runs today
 abbrev pub thin_steps : Script → Option (List ThinStep)
-thin_steps script = if nat_le (length script.body) most_statements then steps_of script.body else None
+thin_steps script = if nat_le (length script.body) MAX_STATEMENTS then steps_of script.body else None

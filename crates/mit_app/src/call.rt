@@ -6,7 +6,7 @@ ghost use Rattle.mit_shelf.specs.Shelf.{Agrees};
 ghost use Rattle.mit_shelf.specs.Staging.{published_in};
 ghost use Rattle.mit_app.specs.Answers.{Answers, Gains, TellsFiles};
 ghost use Rattle.mit_app.specs.Due.{IsCheck, IsUsage, texts};
-ghost use Rattle.mit_app.specs.Ends.{Ends, IfFailed, IfLine, IsCheckTask, halt_line, halt_status};
+ghost use Rattle.mit_app.specs.Ends.{Ends, IfOutsideFailed, IfLine, IsCheckTask, halt_line, halt_status};
 ghost use Rattle.mit_app.specs.Lines.{outside_line, refusal_line};
 ghost use Rattle.mit_app.specs.Statuses.{IsUnstaged};
 ghost use Rattle.mit_app.specs.declared.ends.Outside.TheVariants as outside;
@@ -102,7 +102,7 @@ fn perform<F: Folder, O: Outbox, C: Console>(
     ensures unpublished { OnErr result (published_in (O.held outbox.new) ≡ published_in (O.held outbox.old)) }
     ensures checked { IsCheckTask task → outbox.new ≡ outbox.old }
     ensures agrees { IfSome (F.files folder.old) (λ files. Agrees shelf.old files → Agrees shelf.new files) }
-    ensures failed { IfErr result (λ halt. IfFailed halt (Rose (F.faults folder.old) (F.faults folder.new))
+    ensures failed { IfErr result (λ halt. IfOutsideFailed halt (Rose (F.faults folder.old) (F.faults folder.new))
         (Rose (O.faults outbox.old) (O.faults outbox.new)) (Rose (C.faults console.old) (C.faults console.new))) }
     ensures continues { Continues (C.written console.old) (C.written console.new) }
     ensures told { F.files folder.new ≡ F.files folder.old }
@@ -136,7 +136,7 @@ pub(crate) fn run_and_publish<S: Schedule, F: Folder, O: Outbox, C: Console>(
         → Ends O.held task.Run name.now files outbox.old outbox.new (C.written console.old) (C.written console.new) result }
     ensures unpublished { OnErr result (published_in (O.held outbox.new) ≡ published_in (O.held outbox.old)) }
     ensures agrees { IfSome (F.files folder.old) (λ files. Agrees shelf.old files → Agrees shelf.new files) }
-    ensures failed { IfErr result (λ halt. IfFailed halt (Rose (F.faults folder.old) (F.faults folder.new))
+    ensures failed { IfErr result (λ halt. IfOutsideFailed halt (Rose (F.faults folder.old) (F.faults folder.new))
         (Rose (O.faults outbox.old) (O.faults outbox.new)) (Rose (C.faults console.old) (C.faults console.new))) }
     ensures continues { Continues (C.written console.old) (C.written console.new) }
     ensures told { F.files folder.new ≡ F.files folder.old }

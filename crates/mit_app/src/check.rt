@@ -6,7 +6,7 @@ ghost use Rattle.mit_shelf.specs.Names.{IsLegal};
 ghost use Rattle.mit_shelf.specs.Shelf.{Agrees};
 ghost use Rattle.mit_script.specs.Printed.{printed};
 ghost use Rattle.mit_script.specs.Trees.{IsFormed, statements_of};
-ghost use Rattle.mit_app.specs.Ends.{IfFailed, ShowsAs};
+ghost use Rattle.mit_app.specs.Ends.{IfOutsideFailed, ShowsAs};
 ghost use Rattle.mit_app.specs.Lines.{accepted_line};
 
 use crate::ends::{Halt, Outside};
@@ -46,7 +46,7 @@ pub(crate) fn show<F: Folder, C: Console>(
         → ShowsAs print_it name.now files (C.written console.old) (C.written console.new) result }
     ensures grows { (files : FileMap) → Agrees shelf.new files → Agrees shelf.old files }
     ensures agrees { IfSome (F.files folder.old) (λ files. Agrees shelf.old files → Agrees shelf.new files) }
-    ensures failed { IfErr result (λ halt. IfFailed halt (Rose (F.faults folder.old) (F.faults folder.new))
+    ensures failed { IfErr result (λ halt. IfOutsideFailed halt (Rose (F.faults folder.old) (F.faults folder.new))
         ⊥ (Rose (C.faults console.old) (C.faults console.new))) }
     ensures continues { Continues (C.written console.old) (C.written console.new) }
     ensures told { F.files folder.new ≡ F.files folder.old }

@@ -6,7 +6,7 @@ ghost use Rattle.mit_world.specs.Outside.{Continues, Rose};
 ghost use Rattle.mit_shelf.specs.Shelf.{Agrees};
 ghost use Rattle.mit_shelf.specs.Staging.{published_in};
 ghost use Rattle.mit_script.specs.Trees.{IsNumbered};
-ghost use Rattle.mit_app.specs.Ends.{IfFailed, PublishesAs, RunsAs};
+ghost use Rattle.mit_app.specs.Ends.{IfOutsideFailed, PublishesAs, RunsAs};
 ghost use Rattle.mit_app.specs.Lines.{report_line};
 
 use crate::ends::{Halt, Outside, Refusal};
@@ -30,7 +30,7 @@ pub(crate) fn run<S: Schedule, F: Folder>(
     ensures ran { (files : FileMap) → Agrees shelf.new files → RunsAs typed.now.script files result }
     ensures grows { (files : FileMap) → Agrees shelf.new files → Agrees shelf.old files }
     ensures agrees { IfSome (F.files folder.old) (λ files. Agrees shelf.old files → Agrees shelf.new files) }
-    ensures failed { IfErr result (λ halt. IfFailed halt (Rose (F.faults folder.old) (F.faults folder.new)) ⊥ ⊥) }
+    ensures failed { IfErr result (λ halt. IfOutsideFailed halt (Rose (F.faults folder.old) (F.faults folder.new)) ⊥ ⊥) }
     ensures told { F.files folder.new ≡ F.files folder.old }
     ensures count { F.faults folder.old ≤ F.faults folder.new }
 {
@@ -58,7 +58,7 @@ pub(crate) fn publish<O: Outbox, C: Console>(
         (O.held outbox.old) (O.held outbox.new) (C.written console.old) (C.written console.new) result }
     ensures unpublished { OnErr result (published_in (O.held outbox.new) ≡ published_in (O.held outbox.old)) }
     ensures continues { Continues (C.written console.old) (C.written console.new) }
-    ensures failed { IfErr result (λ halt. IfFailed halt ⊥ (Rose (O.faults outbox.old) (O.faults outbox.new)) (Rose (C.faults console.old) (C.faults console.new))) }
+    ensures failed { IfErr result (λ halt. IfOutsideFailed halt ⊥ (Rose (O.faults outbox.old) (O.faults outbox.new)) (Rose (C.faults console.old) (C.faults console.new))) }
     ensures outbox_count { O.faults outbox.old ≤ O.faults outbox.new }
     ensures console_count { C.faults console.old ≤ C.faults console.new }
 {

@@ -5,7 +5,7 @@ ghost use Rattle.mit_world.specs.Outside.{Rose};
 ghost use Rattle.mit_shelf.specs.Shelf.{Agrees};
 ghost use Rattle.mit_script.specs.Trees.{IsNumbered};
 ghost use Rattle.mit_shelf.specs.Names.{IsLegal};
-ghost use Rattle.mit_app.specs.Ends.{FindsAs, IfFailed, ReadsAs};
+ghost use Rattle.mit_app.specs.Ends.{FindsAs, IfOutsideFailed, FindsIn};
 ghost use Rattle.mit_app.specs.declared.ends.Halt.TheVariants as halt;
 ghost use Rattle.mit_app.specs.declared.ends.Outside.TheVariants as outside;
 ghost use Rattle.mit_app.specs.declared.ends.Refusal.TheVariants as refusal;
@@ -31,7 +31,7 @@ pub(crate) fn read_script<F: Folder>(
     ensures numbered { IfOk result (λ typed. IsNumbered typed.script) }
     ensures grows { (files : FileMap) → Agrees shelf.new files → Agrees shelf.old files }
     ensures agrees { IfSome (F.files folder.old) (λ files. Agrees shelf.old files → Agrees shelf.new files) }
-    ensures failed { IfErr result (λ halt. IfFailed halt (Rose (F.faults folder.old) (F.faults folder.new)) ⊥ ⊥) }
+    ensures failed { IfErr result (λ halt. IfOutsideFailed halt (Rose (F.faults folder.old) (F.faults folder.new)) ⊥ ⊥) }
     ensures told { F.files folder.new ≡ F.files folder.old }
     ensures count { F.faults folder.old ≤ F.faults folder.new }
 {
@@ -58,9 +58,9 @@ fn absent(alloc: Global, name: &str) -> Halt
 
 // The accepted script of a text.
 fn accepted(alloc: Global, text: &[u8]) -> Result<Typed, Halt>
-    ensures read { ReadsAs text.now result }
+    ensures read { FindsIn text.now result }
     ensures numbered { IfOk result (λ typed. IsNumbered typed.script) }
-    ensures own { IfErr result (λ halt. IfFailed halt ⊥ ⊥ ⊥) }
+    ensures own { IfErr result (λ halt. IfOutsideFailed halt ⊥ ⊥ ⊥) }
 {
     let script = match parse(alloc, text) {
         Ok(script) => script,

@@ -5,16 +5,13 @@ ghost use Rattle.mit_rows.specs.declared.value.ColType.TheVariants.{Int};
 ghost use Rattle.mit_expr.specs.Types.{same_type};
 ghost use Rattle.mit_app.specs.ThinScript as spec;
 
-use mit_engine::{Thin, ThinStep};
+use mit_engine::{MAX_STATEMENTS, Thin, ThinStep};
 use mit_expr::Expr;
 use mit_ops::OpSpec;
 use mit_rows::{ColType, MAX_COLUMNS, Value};
 use mit_script::{Script, Stmt};
 use mit_shelf::{Name, legal_name};
 use std::alloc::{AllocError, Global};
-
-/// The most statements of a script that runs today.
-const MAX_STATEMENTS: usize = 1000;
 
 // The name of a file, where the expression is a literal that is a legal one.
 fn literal_name(alloc: Global, name: &Expr) -> Result<Option<Name>, AllocError>
@@ -42,7 +39,7 @@ fn are_ints(types: &[ColType]) -> bool
     types.iter().all(|is| *is == ColType::Int)
 }
 
-// Whether these are from one to 16 integers.
+// Whether these are integers alone, and from one to the most columns.
 fn is_read(types: &[ColType]) -> bool
     ensures { result ≡ spec.is_read types.now }
 {

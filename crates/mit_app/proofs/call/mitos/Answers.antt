@@ -1,6 +1,6 @@
 use Rattle.std.proofs.Common.{refl}
 use Rattle.mit_app.specs.Due.{texts}
-use Rattle.mit_app.proofs.EndLemmas.{agrees_first, answers_halted, answers_usage, answers_well, continues_both, empty_agrees, files_for, halted_folder, halted_uncalled, some_files}
+use Rattle.mit_app.proofs.EndLemmas.{answers_halted, answers_usage, answers_well, continues_both, files_after, halted_folder, halted_uncalled, some_files}
 use Rattle.mit_app.proofs.TaskLemmas.{halted_apart}
 use Rattle.mit_app.proofs.call.mitos.Goals as goal
 
@@ -15,8 +15,8 @@ returns-in_default-clause-answers g c =
 
 pub returns-in-Ok-clause-answers : goal.returns-in-Ok-clause-answers
 returns-in-Ok-clause-answers g c =
-    let found = files_for (g.F.Folder.files c.args.folder.now) c.perform.new.shelf c.shelves_agree_with_their_files.ensures.agree
-    (agrees_first (g.F.Folder.files c.args.folder.now) c.new-shelf.result c.perform.new.shelf (empty_agrees c.new-shelf.result c.new-shelf.ensures) c.perform.ensures.agrees) in (
+    let found = files_after (g.F.Folder.files c.args.folder.now) c.new-shelf.result c.perform.new.shelf c.new-shelf.ensures
+    c.shelves_agree_with_their_files.ensures.agree c.perform.ensures.agrees in (
       found.0,
       found.1,
       answers_well g.O.Outbox.held (texts c.args.words.now) c.in-Some.task c.in-Some.name.now found.0 c.args.outbox.now c.perform.new.outbox
@@ -27,8 +27,8 @@ returns-in-Ok-clause-answers g c =
 
 pub returns-clause-answers : goal.returns-clause-answers
 returns-clause-answers g c =
-    let found = files_for (g.F.Folder.files c.args.folder.now) c.perform.new.shelf c.shelves_agree_with_their_files.ensures.agree
-    (agrees_first (g.F.Folder.files c.args.folder.now) c.new-shelf.result c.perform.new.shelf (empty_agrees c.new-shelf.result c.new-shelf.ensures) c.perform.ensures.agrees) in (
+    let found = files_after (g.F.Folder.files c.args.folder.now) c.new-shelf.result c.perform.new.shelf c.new-shelf.ensures
+    c.shelves_agree_with_their_files.ensures.agree c.perform.ensures.agrees in (
       found.0,
       found.1,
       answers_halted g.O.Outbox.held (texts c.args.words.now) c.in-Some.task c.in-Some.name.now found.0 c.tell-in-Err.result c.args.outbox.now c.perform.new.outbox
@@ -39,22 +39,22 @@ returns-clause-answers g c =
 
 pub returns-clause-uncalled : goal.returns-clause-uncalled
 returns-clause-uncalled g c = λ early.
-    let found = files_for (g.F.Folder.files c.args.folder.now) c.perform.new.shelf c.shelves_agree_with_their_files.ensures.agree
-    (agrees_first (g.F.Folder.files c.args.folder.now) c.new-shelf.result c.perform.new.shelf (empty_agrees c.new-shelf.result c.new-shelf.ensures) c.perform.ensures.agrees) in
+    let found = files_after (g.F.Folder.files c.args.folder.now) c.new-shelf.result c.perform.new.shelf c.new-shelf.ensures
+    c.shelves_agree_with_their_files.ensures.agree c.perform.ensures.agrees in
     halted_uncalled g.O.Outbox.held c.in-Some.task c.in-Some.name.now found.0 c.tell-in-Err.result c.args.outbox.now c.perform.new.outbox (g.C.Console.written c.args.console.now) (g.C.Console.written c.perform.new.console)
     c.in-Err.halt (c.in-Err.ensures.ends found.0 found.2) c.tell-in-Err.ensures.status early
 
 pub returns-clause-folder_told : goal.returns-clause-folder_told
 returns-clause-folder_told g c = λ four.
-    let found = files_for (g.F.Folder.files c.args.folder.now) c.perform.new.shelf c.shelves_agree_with_their_files.ensures.agree
-    (agrees_first (g.F.Folder.files c.args.folder.now) c.new-shelf.result c.perform.new.shelf (empty_agrees c.new-shelf.result c.new-shelf.ensures) c.perform.ensures.agrees) in
+    let found = files_after (g.F.Folder.files c.args.folder.now) c.new-shelf.result c.perform.new.shelf c.new-shelf.ensures
+    c.shelves_agree_with_their_files.ensures.agree c.perform.ensures.agrees in
     halted_folder g.O.Outbox.held c.in-Some.task c.in-Some.name.now found.0 c.tell-in-Err.result c.args.outbox.now c.perform.new.outbox (g.C.Console.written c.args.console.now) (g.C.Console.written c.perform.new.console)
     (g.C.Console.written c.tell-in-Err.new.console) c.in-Err.halt (c.in-Err.ensures.ends found.0 found.2) c.tell-in-Err.ensures.status c.tell-in-Err.ensures.told four
 
 pub returns-clause-usage : goal.returns-clause-usage
 returns-clause-usage g c = λ two.
-    let found = files_for (g.F.Folder.files c.args.folder.now) c.perform.new.shelf c.shelves_agree_with_their_files.ensures.agree
-    (agrees_first (g.F.Folder.files c.args.folder.now) c.new-shelf.result c.perform.new.shelf (empty_agrees c.new-shelf.result c.new-shelf.ensures) c.perform.ensures.agrees) in
+    let found = files_after (g.F.Folder.files c.args.folder.now) c.new-shelf.result c.perform.new.shelf c.new-shelf.ensures
+    c.shelves_agree_with_their_files.ensures.agree c.perform.ensures.agrees in
     absurd (halted_apart g.O.Outbox.held c.in-Some.task c.in-Some.name.now found.0 c.tell-in-Err.result c.args.outbox.now c.perform.new.outbox (g.C.Console.written c.args.console.now) (g.C.Console.written c.perform.new.console)
     c.in-Err.halt (c.in-Err.ensures.ends found.0 found.2) c.tell-in-Err.ensures.status two)
 

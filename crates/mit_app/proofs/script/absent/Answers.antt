@@ -1,4 +1,4 @@
-use Rattle.std.proofs.Common.{◌∙◌, ◌≤◌, ap, arith, length}
+use Rattle.std.proofs.Common.{◌∙◌, ap, arith}
 use Rattle.std.specs.Prelude.{Err}
 use Rattle.mit_app.proofs.WordLemmas.{legal_short}
 use Rattle.mit_app.proofs.script.absent.Goals as goal
