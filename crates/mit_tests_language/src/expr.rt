@@ -34,7 +34,7 @@ fn by_zero(rt: &(impl Abort + AllocGlobal)) -> Expr {
     bin(rt, int(1), BinOp::Div, int(0))
 }
 
-fn types_of(alloc: Global, values: &[Value]) -> Result<Vec<ColType>, AllocError>
+pub(crate) fn types_of(alloc: Global, values: &[Value]) -> Result<Vec<ColType>, AllocError>
     ensures { IfOk result (λ types. types.items ≡ map spec.type_of_value values.now) }
 {
     values

@@ -129,7 +129,7 @@ fn grown(rt: &(impl Abort + AllocGlobal), stack: &mut Vec<Expr>, letter: u8) -> 
 /// scalars, digits numbers, `I` is -5, `M` the lowest integer, `T` a text, `q` one with each escape, `B` is `true` and `F`
 /// `false`; `!` is `not`, `t`, `v` and `s` are the functions `text`, `int` and `len`, `~` is `++`, `x` is `!=`, `y` and `z`
 /// are `<=` and `>=`, `^` is `or`, and the other signs are as in a script.
-fn trees(rt: &(impl Abort + AllocGlobal), letters: &str) -> Vec<Expr> {
+pub(crate) fn trees(rt: &(impl Abort + AllocGlobal), letters: &str) -> Vec<Expr> {
     let mut stack = Vec::new(rt.alloc());
     for letter in letters.as_bytes() {
         let next = grown(rt, &mut stack, *letter);
@@ -166,7 +166,8 @@ pub(crate) fn column_types(rt: &(impl Abort + AllocGlobal), letters: &str) -> Co
     ColTypes::from_vec(types(rt, letters))
 }
 
-fn columns(rt: &(impl Abort + AllocGlobal), letters: &str) -> Columns {
+/// The columns of letters, from `a`.
+pub(crate) fn columns(rt: &(impl Abort + AllocGlobal), letters: &str) -> Columns {
     let mut numbers = Vec::new(rt.alloc());
     for letter in letters.as_bytes() {
         numbers

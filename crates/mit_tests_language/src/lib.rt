@@ -1,5 +1,5 @@
-//! Tests of the language: the values and types of expressions, the types of operators, the tokens of a script, its printed
-//! text, its parser and its check.
+//! Tests of the language: the values and types of expressions, the types of operators, keys and routes, the tokens of a
+//! script, its printed text, its parser and its check.
 #![tactic(auto)]
 
 #[cfg(test)]
@@ -9,10 +9,14 @@ mod expr;
 #[cfg(test)]
 mod given;
 #[cfg(test)]
+mod keys;
+#[cfg(test)]
 mod lex;
 #[cfg(test)]
 mod ops;
 #[cfg(test)]
 mod parse;
+#[cfg(test)]
+mod rows;
 #[cfg(test)]
 mod script;
