@@ -3,13 +3,14 @@ ghost use Rattle.std.specs.Prelude.{◌≡◌, ◌==◌, ◌∷◌, ◌++◌, []
 ghost use Rattle.mit_k_join.specs.Indexes.{without_last, places_of};
 
 use indexmap::IndexMap;
+use smallvec::SmallVec;
 use std::alloc::{AllocError, Global};
 use std::marker::Model;
 
-/// Places of rows in a list, which contracts see as their list.
+/// Places of rows in a list, which contracts see as their list. One alone takes no memory of its own.
 #[derive(Debug, Drop)]
 pub struct Places {
-    places: Vec<usize>,
+    places: SmallVec<usize, 1>,
 }
 
 impl Model for Places {
@@ -26,7 +27,7 @@ impl Places {
         ensures { IfOk result (λ places. places ≡ place ∷ []) }
     {
         Ok(Places {
-            places: Vec::from_slice(alloc, &[place])?,
+            places: SmallVec::from_slice(alloc, &[place])?,
         })
     }
 
@@ -50,7 +51,7 @@ impl Places {
     fn as_slice(&self) -> &[usize]
         ensures { result.now ≡ self.now }
     {
-        &self.places
+        self.places.as_slice()
     }
 }
 
