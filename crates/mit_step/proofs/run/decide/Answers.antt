@@ -1,0 +1,21 @@
+use Rattle.std.proofs.Common.{◌≡◌, ◌∙◌, ◌+◌, Err, ap, refl, rules, sym, subst}
+use Rattle.mit_script.specs.Execution.{decides, taken, truth_in}
+use Rattle.mit_step.specs.Running.{Leaves}
+use Rattle.mit_step.proofs.Steps.{taken_of}
+use Rattle.mit_step.proofs.run.decide.Goals as goal
+
+pub returns-in_err-bag-clause-answer : goal.returns-in_err-bag-clause-answer
+returns-in_err-bag-clause-answer g c = λ files state next agrees stands.
+    let is : c.from_residual.result ≡ Err c.in_err-bag.field-0.0 = search rules in
+    subst (Leaves (decides files c.args.number c.args.op.now c.args.args.now state next) next c.args.run.now) (sym is)
+    (c.in_err-bag.ensures.answer files state (λ bag. taken c.args.number state state.left (next (truth_in bag))) agrees stands)
+
+pub returns-clause-answer : goal.returns-clause-answer
+returns-clause-answer g c = λ files state next agrees stands.
+    let was = c.take.ensures.some c.if-not-take.false in (
+      record state { used = state.used + 1; left = c.take.new.self.left },
+      record { store = stands.store; files = stands.files; used = ap (λ n. n + 1) stands.used ∙ sym was.1; left = refl },
+      c.in_ok-bag.ensures.answer files state (λ bag. taken c.args.number state state.left (next (truth_in bag))) agrees stands
+          ∙ (taken_of c.args.number state c.take.new.self.left (next (truth_in c.in_ok-bag.bag.value)) (stands.left ∙ was.0)
+          ∙ ap (λ truth. next truth (record state { used = state.used + 1; left = c.take.new.self.left })) (sym (c.truth_of.ensures ∙ ap truth_in c.deref.ensures))),
+    )

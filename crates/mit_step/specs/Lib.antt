@@ -1,0 +1,5 @@
+pub mod Running
+pub mod Stepping
+pub mod Groups
+pub mod Indexes
+pub mod Typing

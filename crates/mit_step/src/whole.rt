@@ -1,0 +1,156 @@
+//! An operator over whole bags.
+ghost use Rattle.std.specs.Prelude.{◌≡◌, ◌≢◌, [], ◌∷◌, IfOk, length, map};
+ghost use Rattle.std.specs.FinMap as fin;
+ghost use Rattle.mit_rows.specs.Bags.{bag_sum};
+ghost use Rattle.mit_ops.specs.Kinds.{bag_inputs_of, kind_of};
+ghost use Rattle.mit_ops.specs.Operators.{whole};
+ghost use Rattle.mit_ops.specs.Parts.{Fits};
+ghost use Rattle.mit_step.specs.Stepping.{GivesWhole, inputs_of};
+
+mod answers;
+mod groups;
+mod join;
+mod once;
+mod rows;
+
+use crate::whole::answers::settle;
+use crate::whole::groups::{distinct, reduced};
+use crate::whole::join::joined_rows;
+use crate::whole::once::{counted, made_row, only, summed};
+use crate::whole::rows::{filtered, flattened, mapped};
+use mit_ops::laws::{fitting_groups_law, fitting_law};
+use mit_ops::{OpFault, OpSpec};
+use mit_rows::laws::{bags_are_rows_in_order, bags_are_sorted_lists};
+use mit_rows::{Bag, Value};
+use std::alloc::{AllocError, Global};
+use std::rc::Rc;
+use std::slice;
+
+/// Why an operator gives no bag.
+#[derive(Debug, Drop)]
+pub enum WholeStop {
+    /// It is at fault.
+    Fault(OpFault),
+    /// Memory ran out.
+    NoMemory,
+}
+
+impl From<AllocError> for WholeStop {
+    ghost use Rattle.std.specs.Prelude.{◌≡◌};
+    ghost use Rattle.mit_step.specs.declared.whole.WholeStop.TheVariants.{NoMemory};
+
+    ghost from_gives = { λ _ stop. stop ≡ NoMemory };
+
+    fn from(_: AllocError) -> WholeStop {
+        WholeStop::NoMemory
+    }
+}
+
+/// What an operator gives over whole bags and the values that it captures: a bag, or its fault.
+///
+/// It is neither a read nor a write, and its bags are as many as it takes.
+pub fn whole_bag(
+    alloc: Global,
+    spec: &OpSpec,
+    bags: &[Rc<Bag>],
+    captures: &[Value],
+) -> Result<Bag, WholeStop>
+    requires kind { (kind_of spec.now ≢ 1) × (kind_of spec.now ≢ 14) }
+    requires count { length bags.now ≡ bag_inputs_of spec.now }
+    requires fits { Fits spec.now (inputs_of (map (λ bag. bag.value) bags.now) captures.now) }
+    ensures { GivesWhole (whole spec.now (inputs_of (map (λ bag. bag.value) bags.now) captures.now)
+        fin.empty) result }
+{
+    match bags {
+        [] => of_none(alloc, spec, captures),
+        [bag] => of_one(alloc, spec, bag, captures),
+        [left, right] => of_two(alloc, spec, left, right, captures),
+        _ => unreachable!(),
+    }
+}
+
+/// What an operator gives that takes no bag.
+fn of_none(alloc: Global, spec: &OpSpec, captures: &[Value]) -> Result<Bag, WholeStop>
+    requires kind { kind_of spec.now ≢ 1 }
+    requires count { bag_inputs_of spec.now ≡ 0 }
+    requires fits { Fits spec.now (inputs_of [] captures.now) }
+    ensures { GivesWhole (whole spec.now (inputs_of [] captures.now) fin.empty) result }
+{
+    fitting_law();
+    match spec {
+        OpSpec::Scalar { expr } => made_row(alloc, slice::from_ref(expr), captures),
+        OpSpec::MakeRow { exprs } => made_row(alloc, exprs.as_slice(), captures),
+        OpSpec::Empty { .. } => Ok(Bag::from_rows(Vec::new(alloc))?),
+        _ => unreachable!(),
+    }
+}
+
+/// What an operator gives that takes one bag.
+fn of_one(alloc: Global, spec: &OpSpec, bag: &Bag, captures: &[Value]) -> Result<Bag, WholeStop>
+    requires kind { kind_of spec.now ≢ 14 }
+    requires count { bag_inputs_of spec.now ≡ 1 }
+    requires fits { Fits spec.now (inputs_of (bag.now ∷ []) captures.now) }
+    ensures { GivesWhole (whole spec.now (inputs_of (bag.now ∷ []) captures.now) fin.empty) result }
+{
+    fitting_law();
+    fitting_groups_law();
+    bags_are_sorted_lists();
+    bags_are_rows_in_order();
+    let rows = bag.rows();
+    match spec {
+        OpSpec::Map { exprs } => settle(mapped(alloc, exprs.as_slice(), rows, captures)?),
+        OpSpec::Filter { expr } => settle(filtered(alloc, expr, rows, captures)?),
+        OpSpec::FlatMap { flat } => settle(flattened(alloc, flat, rows, captures)?),
+        OpSpec::Reduce { keys, agg } => settle(reduced(alloc, keys.as_slice(), *agg, rows)?),
+        OpSpec::Distinct => settle(distinct(alloc, rows)?),
+        OpSpec::Only => only(alloc, rows),
+        OpSpec::Count => counted(alloc, rows),
+        OpSpec::Sum { column } => summed(alloc, *column, rows),
+        OpSpec::Copy => Ok(bag.copy(alloc)?),
+        _ => unreachable!(),
+    }
+}
+
+/// What an operator gives that takes two bags.
+fn of_two(
+    alloc: Global,
+    spec: &OpSpec,
+    left: &Bag,
+    right: &Bag,
+    captures: &[Value],
+) -> Result<Bag, WholeStop>
+    requires count { bag_inputs_of spec.now ≡ 2 }
+    requires fits { Fits spec.now (inputs_of (left.now ∷ right.now ∷ []) captures.now) }
+    ensures { GivesWhole (whole spec.now (inputs_of (left.now ∷ right.now ∷ []) captures.now)
+        fin.empty) result }
+{
+    fitting_law();
+    bags_are_sorted_lists();
+    match spec {
+        OpSpec::Join {
+            left: by_left,
+            right: by_right,
+        } => {
+            let answer = joined_rows(
+                alloc,
+                by_left.as_slice(),
+                left.rows(),
+                by_right.as_slice(),
+                right.rows(),
+            )?;
+            settle(answer)
+        }
+        OpSpec::Union => Ok(union(alloc, left, right)?),
+        _ => unreachable!(),
+    }
+}
+
+/// The sum of two bags.
+fn union(alloc: Global, left: &Bag, right: &Bag) -> Result<Bag, AllocError>
+    ensures { IfOk result (λ bag. bag ≡ bag_sum (left.now ∷ right.now ∷ [])) }
+{
+    let mut bags = Vec::with_capacity(alloc, 2)?;
+    bags.push(left.copy(alloc)?)?;
+    bags.push(right.copy(alloc)?)?;
+    Bag::join_all(alloc, bags)
+}

@@ -1,0 +1,52 @@
+//! Answers of operators: what they begin with and how they end as a bag.
+ghost use Rattle.std.specs.Prelude.{◌≡◌, Ok, OnOk};
+ghost use Rattle.mit_ops.specs.Answers.{RowsOrKind, at_row, both};
+ghost use Rattle.mit_ops.specs.Stops.{Stops};
+ghost use Rattle.mit_step.specs.Stepping.{GivesWhole};
+
+use crate::whole::WholeStop;
+use mit_ops::laws::answers_add_up;
+use mit_ops::{Answer, OpStop};
+use mit_rows::{Bag, Row};
+use std::alloc::{AllocError, Global};
+
+/// The bag of an answer, or its fault.
+pub fn settle(answer: Answer) -> Result<Bag, WholeStop>
+    ensures { GivesWhole answer result }
+{
+    match answer.finish() {
+        Ok(rows) => Ok(Bag::from_rows(rows)?),
+        Err(fault) => Err(WholeStop::Fault(fault)),
+    }
+}
+
+/// Adds the fault with which an operator stopped at a row.
+pub fn add_stop(
+    alloc: Global,
+    row: &Row,
+    stop: OpStop,
+    answer: &mut Answer,
+) -> Result<(), AllocError>
+    ensures { (due : RowsOrKind) → Stops due stop
+        → OnOk result (answer.new ≡ both answer.old (at_row row.now due)) }
+{
+    match stop {
+        OpStop::Fault(kind) => {
+            answer.add_fault(row.copy(alloc)?, kind);
+            Ok(())
+        }
+        OpStop::NoMemory => Err(AllocError),
+    }
+}
+
+/// Adds these rows.
+pub fn add_rows(rows: Vec<Row>, answer: &mut Answer) -> Result<(), AllocError>
+    ensures { OnOk result (answer.new ≡ both answer.old (Ok rows.items)) }
+{
+    answers_add_up::<Row>();
+    answer.in_order();
+    for row in rows {
+        answer.add_row(row)?;
+    }
+    Ok(())
+}
