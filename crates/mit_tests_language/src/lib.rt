@@ -1,7 +1,9 @@
 //! Tests of the language: the values and types of expressions, the types of operators, keys and routes, the tokens of a
-//! script, its printed text, its parser and its check.
+//! script, its printed text, its parser, its check and its blocks.
 #![tactic(auto)]
 
+#[cfg(test)]
+mod cfg;
 #[cfg(test)]
 mod check;
 #[cfg(test)]

@@ -1,0 +1,2 @@
+pub mod HeldSlots
+pub mod Numbers
