@@ -177,3 +177,21 @@ fn operators_and_faults(rt: HostRuntime) {
         "statement 1, decisions 0, BadRow(1)",
     );
 }
+
+#[test]
+fn joins_of_sixteen_columns_and_of_doubled_keys(rt: HostRuntime) {
+    expect(
+        &rt,
+        "a = row [1, 2, 3, 4, 5, 6, 7, 8, 9]; b = row [1, 12, 13, 14, 15, 16, 17]; c = join a $0 with b $0; write c to \"c\";",
+        "",
+        9,
+        "c=1,2,3,4,5,6,7,8,9,1,12,13,14,15,16,17\n; decisions 0",
+    );
+    expect(
+        &rt,
+        "a = read \"a\" (int, int); c = join a $0, $0 with a $1, $1; write c to \"c\";",
+        "a=1,2\n2,3\n",
+        9,
+        "c=2,3,1,2\n; decisions 0",
+    );
+}
