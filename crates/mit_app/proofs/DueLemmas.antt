@@ -1,7 +1,8 @@
 -- One verdict is due over the same words and files, and not more.
-use Rattle.std.proofs.Common.{◌≡◌, ◌∙◌, ℕ, List, ap, sym, subst, refl, inl, inr}
-use Rattle.std.specs.Prelude.{◌⊎◌, true, false, Option, Some, None, Result, Ok, Err}
+use Rattle.std.proofs.Common.{◌≡◌, ◌∙◌, ℕ, List, [], ◌∷◌, ap, sym, subst, refl, inl, inr}
+use Rattle.std.specs.Prelude.{◌⊎◌, Bool, true, false, codes, Option, Some, None, Result, Ok, Err}
 use Rattle.std.specs.FinMap as fin
+use Rattle.mit_rows.specs.Integers.{magnitude}
 use Rattle.mit_world.specs.Files.{FileMap}
 use Rattle.mit_ops.specs.declared.types.VarType.{VarType}
 use Rattle.mit_script.specs.Accepted.{checked}
@@ -11,11 +12,12 @@ use Rattle.mit_parse.specs.Places.{IsRefusedAt}
 use Rattle.mit_script.specs.Grammar.{IsSpelled}
 use Rattle.mit_engine.specs.Thin.{actions_of}
 use Rattle.mit_engine.specs.declared.thin.ThinStep.{ThinStep}
-use Rattle.mit_app.specs.Due.{Accepted, AreActions, Due, DueFor, Found, IsCommand, IsFound, IsFoundIn, IsUsage, Misspelled, Missing, Rejected, RunsIn, Verdict, verdict_for}
+use Rattle.mit_app.specs.Due.{Accepted, AreActions, AreDecisions, AreWordsFor, Due, DueFor, Found, IsCommand, IsFound, IsFoundIn, IsUsage, Misspelled, Missing, Rejected, RunsIn, Verdict, verdict_for}
 use Rattle.mit_app.specs.Ends.{Counted}
 use Rattle.mit_app.specs.ThinScript.{thin_steps}
 use Rattle.mit_app.specs.declared.words.Task.{Task}
-use Rattle.mit_app.specs.declared.words.Task.TheVariants.{Run, Check}
+use Rattle.mit_app.specs.declared.words.Task.TheVariants.{Run, Step, Check}
+use Rattle.mit_app.specs.declared.words.TheConstants.{MAX_DECISIONS}
 
 -- a text spells one script, or is refused at one place
 pub record IsRead : Type 0 where
@@ -85,15 +87,52 @@ some_due task name files read =
     let found = some_found (fin.get files name) read in
     (verdict_for task name files found.0, (found.0, found.1, refl))
 
+-- words that ask for steps ask for nothing else
+step_or_run : (words : List (List ℕ)) (decisions : ℕ) (a b : List ℕ) → AreWordsFor (Step decisions) words a → AreWordsFor Run words b → ⊥
+step_or_run words decisions a b (inl x) y = let e = sym x.0 ∙ y in cc
+step_or_run words decisions a b (inr x) y = let e = sym x.1 ∙ y in cc
+
+step_or_check : (words : List (List ℕ)) (decisions : ℕ) (shown : Bool) (a b : List ℕ) → AreWordsFor (Step decisions) words a → AreWordsFor (Check shown) words b → ⊥
+step_or_check words decisions false a b (inl x) y = let e = sym x.0 ∙ y in cc
+step_or_check words decisions false a b (inr x) y = let e = sym x.1 ∙ y in cc
+step_or_check words decisions true a b (inl x) y = let e = sym x.0 ∙ y in cc
+step_or_check words decisions true a b (inr x) y = let e = sym x.1 ∙ y in cc
+
+-- two such words of one call are the same words
+same_word : (words : List (List ℕ)) (a b x y : List ℕ) → words ≡ codes "step" ∷ a ∷ codes "--decisions" ∷ x ∷ [] → words ≡ codes "step" ∷ b ∷ codes "--decisions" ∷ y ∷ []
+    → (x ≡ y) × (a ≡ b)
+same_word words a b x y one other = let e = sym one ∙ other in (cc, cc)
+
+same_count : (a b : ℕ) → Some a ≡ Some b → a ≡ b
+same_count a b e = cc
+
+-- a word gives at most one number of decisions
+decisions_once : (word other : List ℕ) (a b : ℕ) → word ≡ other → AreDecisions word a → AreDecisions other b → a ≡ b
+decisions_once word other a b same x y = same_count a b (sym x.0 ∙ ap (magnitude MAX_DECISIONS) same ∙ y.0)
+
+-- and one number of decisions
+step_once : (words : List (List ℕ)) (c d : ℕ) (a b : List ℕ) → AreWordsFor (Step c) words a → AreWordsFor (Step d) words b → (Step c ≡ Step d) × (a ≡ b)
+step_once words c d a b (inl x) (inl y) = let e = sym x.0 ∙ y.0 in (ap Step (x.1 ∙ sym y.1), cc)
+step_once words c d a b (inl x) (inr y) = let e = sym x.0 ∙ y.1 in cc
+step_once words c d a b (inr x) (inl y) = let e = sym x.1 ∙ y.0 in cc
+step_once words c d a b (inr x) (inr y) =
+    let same = same_word words a b x.0 y.0 x.1 y.1 in
+    (ap Step (decisions_once x.0 y.0 c d same.0 x.2 y.2), same.1)
+
 -- words are at most one command
 command_once : (words : List (List ℕ)) (t u : Task) (a b : List ℕ) → IsCommand words t a → IsCommand words u b → (t ≡ u) × (a ≡ b)
 command_once words Run Run a b x y = let e = sym x.0 ∙ y.0 in (refl, cc)
+command_once words Run (Step d) a b x y = absurd (step_or_run words d b a y.0 x.0)
 command_once words Run (Check false) a b x y = let e = sym x.0 ∙ y.0 in cc
 command_once words Run (Check true) a b x y = let e = sym x.0 ∙ y.0 in cc
+command_once words (Step c) Run a b x y = absurd (step_or_run words c a b x.0 y.0)
+command_once words (Step c) (Step d) a b x y = step_once words c d a b x.0 y.0
+command_once words (Step c) (Check shown) a b x y = absurd (step_or_check words c shown a b x.0 y.0)
 command_once words (Check false) Run a b x y = let e = sym x.0 ∙ y.0 in cc
+command_once words (Check true) Run a b x y = let e = sym x.0 ∙ y.0 in cc
+command_once words (Check shown) (Step d) a b x y = absurd (step_or_check words d shown b a y.0 x.0)
 command_once words (Check false) (Check false) a b x y = let e = sym x.0 ∙ y.0 in (refl, cc)
 command_once words (Check false) (Check true) a b x y = let e = sym x.0 ∙ y.0 in cc
-command_once words (Check true) Run a b x y = let e = sym x.0 ∙ y.0 in cc
 command_once words (Check true) (Check false) a b x y = let e = sym x.0 ∙ y.0 in cc
 command_once words (Check true) (Check true) a b x y = let e = sym x.0 ∙ y.0 in (refl, cc)
 
@@ -112,14 +151,17 @@ due_once words files v w read (inr x) y = once words files x.0 x.1 v w read x.2 
 
 -- ---- the number of actions
 
-pub actions_at : Option (List ThinStep) → ℕ
+actions_at : Option (List ThinStep) → ℕ
 actions_at None = 0
 actions_at (Some steps) = actions_of steps
 
--- whatever they are of an accepted script, they are counted
-pub counted_at : (name : List ℕ) (files : FileMap) (script : Script) → IsFound files name (Accepted script) → (actions : ℕ) × Counted name files actions
+-- whatever a script is, its actions are counted
+pub any_actions : (script : Script) → (actions : ℕ) × ((steps : List ThinStep) → thin_steps script ≡ Some steps → actions ≡ actions_of steps)
 unfolding actions_at
-counted_at name files script found = (actions_at (thin_steps script), (script, found, λ steps is. ap actions_at is))
+any_actions script = (actions_at (thin_steps script), λ steps is. ap actions_at is)
+
+pub counted_at : (name : List ℕ) (files : FileMap) (script : Script) → IsFound files name (Accepted script) → (actions : ℕ) × Counted name files actions
+counted_at name files script found = let counts = any_actions script in (counts.0, (script, found, counts.1))
 
 same_script : (one other : Script) → Accepted one ≡ Accepted other → one ≡ other
 same_script one other e = cc

@@ -18,7 +18,6 @@ use Rattle.mit_app.specs.declared.ends.Outside.TheVariants as outside
 use Rattle.mit_app.specs.declared.ends.Refusal.{Refusal}
 use Rattle.mit_app.specs.declared.ends.Refusal.TheVariants as refusal
 use Rattle.mit_app.specs.declared.words.Task.{Task}
-use Rattle.mit_app.specs.declared.words.Task.TheVariants.{Run}
 use Rattle.mit_app.proofs.DueLemmas.{IsRead, runs_in, some_due, some_runs_in, usage_runs_in}
 
 -- ---- the files over which a call answers
@@ -121,7 +120,7 @@ untouched : {O : Type 0} (held : O → Option Held) (verdict : Verdict) (actions
     → status ≢ 0 → status ≢ 5 → new ≡ old → Leaves held verdict actions status old new written written'
 untouched held (Refused why) actions status old new written written' none own same = (same, own)
 untouched held (Accepts count shown) actions status old new written written' none own same = (same, own)
-untouched held (Publishes files blocks) actions status old new written written' none own same = record {
+untouched held (Publishes files tally) actions status old new written written' none own same = record {
   done = λ e. absurd (none e);
   count = 0;
   within = omega arith;
@@ -159,11 +158,11 @@ answers_untouched held words task name files status old new written written' rea
 
 -- a call whose publication stopped, at a status that is not the outbox's
 answers_some : {O : Type 0} (held : O → Option Held) (words : List (List ℕ)) (task : Task) (name : List ℕ) (files : FileMap) (status : ℕ) (old new : O) (written written' : Option (List ℕ))
-    → IsRead → IsCommand words task name → IsOutside status → status ≢ 0 → status ≢ 5 → task ≡ Run
-    → EndsStaging name files (λ published report. StagesFront published (held old) (held new)) → Answers held words files status old new written written'
-answers_some held words task name files status old new written written' read command is none own run ends = record {
-  verdict = Publishes ends.published ends.blocks;
-  due = inr (task, name, command, subst (λ (t : Task). DueFor t name files (Publishes ends.published ends.blocks)) (sym run) ends.due);
+    → IsRead → IsCommand words task name → IsOutside status → status ≢ 0 → status ≢ 5
+    → EndsStaging task name files (λ published report. StagesFront published (held old) (held new)) → Answers held words files status old new written written'
+answers_some held words task name files status old new written written' read command is none own ends = record {
+  verdict = Publishes ends.published ends.tally;
+  due = inr (task, name, command, ends.due);
   actions = ends.actions;
   counted = runs_in words task name files ends.actions read command ends.counted;
   answered = inl is;
@@ -179,11 +178,11 @@ answers_some held words task name files status old new written written' read com
 -- a call that was halted by the outside, before it called the outbox or while it did
 answers_perhaps : {O : Type 0} (held : O → Option Held) (words : List (List ℕ)) (task : Task) (name : List ℕ) (files : FileMap) (status : ℕ) (old new : O) (written written' : Option (List ℕ))
     → IsRead → IsCommand words task name → IsOutside status → status ≢ 0 → status ≢ 5
-    → (new ≡ old) ⊎ ((task ≡ Run) × EndsStaging name files (λ published report. StagesFront published (held old) (held new))) → Answers held words files status old new written written'
+    → (new ≡ old) ⊎ EndsStaging task name files (λ published report. StagesFront published (held old) (held new)) → Answers held words files status old new written written'
 answers_perhaps held words task name files status old new written written' read command is none own (inl same) =
     answers_untouched held words task name files status old new written written' read command is none own same
 answers_perhaps held words task name files status old new written written' read command is none own (inr ends) =
-    answers_some held words task name files status old new written written' read command is none own ends.0 ends.1
+    answers_some held words task name files status old new written written' read command is none own ends
 
 -- how far a publication came that the outbox stopped, by the line after it
 stopped_publishing : (files : FileMap) (report : List ℕ) (status : ℕ) (old new : Option Held) (written mid written' : Option (List ℕ))
@@ -205,16 +204,16 @@ stopped_publishing files report status old new written mid written' none (inr st
 }
 
 answers_stopped : {O : Type 0} (held : O → Option Held) (words : List (List ℕ)) (task : Task) (name : List ℕ) (files : FileMap) (status : ℕ) (old new : O) (written mid written' : Option (List ℕ))
-    → IsRead → IsCommand words task name → IsOutside status → status ≢ 0 → task ≡ Run
-    → EndsStaging name files (λ published report. StopsStaging published report (held old) (held new) written mid)
+    → IsRead → IsCommand words task name → IsOutside status → status ≢ 0
+    → EndsStaging task name files (λ published report. StopsStaging published report (held old) (held new) written mid)
     → (status ≡ 5 → Gains (outside_line outside.Outbox) mid written') → Answers held words files status old new written written'
-answers_stopped held words task name files status old new written mid written' read command is none run ends line = record {
-  verdict = Publishes ends.published ends.blocks;
-  due = inr (task, name, command, subst (λ (t : Task). DueFor t name files (Publishes ends.published ends.blocks)) (sym run) ends.due);
+answers_stopped held words task name files status old new written mid written' read command is none ends line = record {
+  verdict = Publishes ends.published ends.tally;
+  due = inr (task, name, command, ends.due);
   actions = ends.actions;
   counted = runs_in words task name files ends.actions read command ends.counted;
   answered = inl is;
-  outbox = stopped_publishing ends.published (console_text (Publishes ends.published ends.blocks) ends.actions) status (held old) (held new) written mid written' none ends.stopped line;
+  outbox = stopped_publishing ends.published (console_text (Publishes ends.published ends.tally) ends.actions) status (held old) (held new) written mid written' none ends.stopped line;
 }
 
 -- what is refused is answered with its line, or the line could not be put
@@ -248,7 +247,7 @@ answers_halted held words task name files status old new written mid written' (h
     (halts_apart (halt.Failed outside.Folder) status halts) (not_outbox (halt.Failed outside.Folder) status (λ e. cc) halts) ends.0
 answers_halted held words task name files status old new written mid written' (halt.Failed outside.Outbox) read command ends halts line =
     answers_stopped held words task name files status old new written mid written' read command (failed_outside outside.Outbox status halts)
-    (halts_apart (halt.Failed outside.Outbox) status halts) ends.0 ends.1 line
+    (halts_apart (halt.Failed outside.Outbox) status halts) ends line
 answers_halted held words task name files status old new written mid written' (halt.Failed outside.Console) read command ends halts line =
     answers_perhaps held words task name files status old new written written' read command (failed_outside outside.Console status halts)
     (halts_apart (halt.Failed outside.Console) status halts) (not_outbox (halt.Failed outside.Console) status (λ e. cc) halts) ends

@@ -1,5 +1,7 @@
 pub mod WordLemmas
 pub mod DueLemmas
 pub mod EndLemmas
-pub mod TaskLemmas
 pub mod ThinLemmas
+pub mod ThinMeans
+pub mod NumberLemmas
+pub mod TaskLemmas

@@ -1,33 +1,41 @@
 -- How reading, running, publishing and showing make the end of a task.
 use Rattle.std.proofs.Common.{◌≡◌, ◌∙◌, ◌++◌, ℕ, List, ap, sym, subst, refl, arith, inl, inr}
-use Rattle.std.specs.Prelude.{◌⊎◌, Bool, Option, Some, None, Result, IfErr, IfSome, Ok, Err, option_and_then, option_map, slice_get}
+use Rattle.std.specs.Prelude.{◌⊎◌, Bool, Option, Some, None, Result, IfErr, IfSome, Ok, Err, option_and_then, option_map, slice_get, string_bytes}
 use Rattle.std.proofs.lemmas.List.{take_all}
 use Rattle.std.specs.FinMap as fin
 use Rattle.mit_world.specs.Files.{FileMap}
 use Rattle.mit_world.specs.Outside.{Held}
 use Rattle.mit_engine.specs.Job.{AnswersEnding}
-use Rattle.mit_engine.specs.Thin.{Ending, Faulted, Finished, actions_of, exec}
+use Rattle.mit_engine.specs.Thin as thin
+use Rattle.mit_engine.specs.Thin.{actions_of}
 use Rattle.mit_engine.specs.declared.thin.Done.{Done}
 use Rattle.mit_engine.specs.declared.thin.ThinStep.{ThinStep}
 use Rattle.mit_ops.specs.declared.faults.ScriptFault.{ScriptFault}
+use Rattle.mit_script.specs.Execution as all
 use Rattle.mit_script.specs.declared.tree.Script.{Script}
 use Rattle.mit_script.specs.declared.typed.Typed.{Typed}
 use Rattle.mit_shelf.specs.Printed.{published}
 use Rattle.mit_shelf.specs.Shelf.{Agrees, Kept, bytes_at, kept}
 use Rattle.mit_shelf.specs.Staging.{stages_all}
+use Rattle.mit_shelf.specs.declared.stop.Stop.TheVariants as stop
+use Rattle.mit_step.specs.Stepping.{EndsAs}
+use Rattle.mit_step.specs.declared.step.Stepped.{Stepped}
 use Rattle.mit_app.specs.Answers.{Gains, Stages}
-use Rattle.mit_app.specs.Due.{Accepted, Found, IsFound, IsFoundIn, Misspelled, Missing, Publishes, Refused, Rejected, ending_verdict, run_verdict, task_verdict, verdict_for}
-use Rattle.mit_app.specs.Ends.{Ends, EndsStaging, FindsAs, IfOutsideFailed, PublishesAs, FindsIn, RunsAs, ShowsAs, StagesFront, StopsStaging}
-use Rattle.mit_app.specs.Lines.{report_line}
+use Rattle.mit_app.specs.Due.{Accepted, Blocks, Decisions, Found, IsFound, IsFoundIn, Misspelled, Missing, Publishes, Refused, Rejected, Tally, ending_verdict, run_verdict, task_verdict, verdict_for}
+use Rattle.mit_app.specs.Ends.{Ends, EndsStaging, FindsAs, IfOutsideFailed, PublishesAs, FindsIn, Reports, RunsAs, ShowsAs, StagesFront, StopsStaging}
+use Rattle.mit_app.specs.Lines.{report_line, step_line}
 use Rattle.mit_app.specs.ThinScript.{thin_steps}
 use Rattle.mit_app.specs.declared.ends.Halt.{Halt}
 use Rattle.mit_app.specs.declared.ends.Halt.TheVariants as halt
 use Rattle.mit_app.specs.declared.ends.Outside.TheVariants as outside
 use Rattle.mit_app.specs.declared.ends.Refusal.TheVariants as refusal
+use Rattle.mit_app.specs.declared.publish.Ran.{Ran}
 use Rattle.mit_app.specs.declared.words.Task.{Task}
-use Rattle.mit_app.specs.declared.words.Task.TheVariants.{Run, Check}
-use Rattle.mit_app.proofs.DueLemmas.{counted_at}
+use Rattle.mit_app.specs.declared.words.Task.TheVariants.{Run, Step, Check}
+use Rattle.mit_app.specs.declared.words.TheConstants.{DECISIONS}
+use Rattle.mit_app.proofs.DueLemmas.{any_actions, counted_at}
 use Rattle.mit_app.proofs.EndLemmas.{HaltsWith}
+use Rattle.mit_app.proofs.ThinMeans.{all_of_thin}
 
 -- ---- reading
 
@@ -84,46 +92,83 @@ reading_ends held task name files outbox written (halt.Failed outside.NoMemory) 
 
 -- ---- running
 
-pub not_thin_runs : (script : Script) (files : FileMap) → thin_steps script ≡ None → RunsAs script files (Err (halt.Refused refusal.NotThin))
-not_thin_runs script files none = ap (run_verdict files) none
+pub not_thin_runs : (script : Script) (files : FileMap) → thin_steps script ≡ None → RunsAs Run script files (Err (halt.Refused refusal.NotThin))
+not_thin_runs script files none = ap (run_verdict files script) none
 
 same_steps : (one other : List ThinStep) → Some one ≡ Some other → one ≡ other
 same_steps one other e = cc
 
-pub ended_runs : (script : Script) (files : FileMap) (steps : List ThinStep) (done : Done) → thin_steps script ≡ Some steps
-    → AnswersEnding steps (exec files steps) (Ok done) → RunsAs script files (Ok done)
-ended_runs script files steps done thin answer =
-    let finished : run_verdict files (thin_steps script) ≡ Publishes (published answer.0) 1 = ap (run_verdict files) thin ∙ ap ending_verdict answer.1 in (
-      finished ∙ ap (λ (m : FileMap). Publishes m 1) (sym answer.2) ∙ ap (Publishes done.files) (sym answer.3),
-      λ other is. answer.4 ∙ ap actions_of (same_steps steps other (sym thin ∙ is)),
-    )
+-- what is due for a thin script is the ending of its steps
+thin_due : (script : Script) (files : FileMap) (steps : List ThinStep) (ending : thin.Ending) → thin_steps script ≡ Some steps
+    → all.exec script files DECISIONS ≡ all_of_thin (thin.exec files steps) → thin.exec files steps ≡ ending
+    → task_verdict Run files script ≡ ending_verdict (λ used. Blocks 1) (all_of_thin ending)
+thin_due script files steps ending gives means is = ap (run_verdict files script) gives ∙ ap (ending_verdict (λ used. Blocks 1)) (means ∙ ap all_of_thin is)
+
+pub ended_runs : (script : Script) (files : FileMap) (steps : List ThinStep) (done : Done) (ran : Ran) → thin_steps script ≡ Some steps
+    → all.exec script files DECISIONS ≡ all_of_thin (thin.exec files steps) → AnswersEnding steps (thin.exec files steps) (Ok done)
+    → ran.files ≡ done.files → string_bytes ran.report ≡ report_line (fin.len done.files) done.blocks done.actions → RunsAs Run script files (Ok ran)
+ended_runs script files steps done ran gives means answer same told = record {
+  tally = Blocks 1;
+  due = thin_due script files steps (thin.Finished answer.0) gives means answer.1 ∙ ap (λ (m : FileMap). Publishes m (Blocks 1)) (sym answer.2 ∙ sym same);
+  actions = done.actions;
+  counted = λ other is. answer.4 ∙ ap actions_of (same_steps steps other (sym gives ∙ is));
+  text = told ∙ ap (λ (blocks : ℕ). report_line (fin.len done.files) blocks done.actions) answer.3
+      ∙ ap (λ (m : FileMap). report_line (fin.len m) 1 done.actions) (sym same);
+}
+
+-- a fault is told with no decisions
+fault_alike : (fault : ScriptFault) → fault.decisions ≡ 0 → record { statement = fault.statement; decisions = 0; kind = fault.kind } ≡ fault
+fault_alike fault none = ap (λ (d : ℕ). record { statement = fault.statement; decisions = d; kind = fault.kind }) (sym none)
 
 pub faulty_runs : (script : Script) (files : FileMap) (steps : List ThinStep) (fault : ScriptFault) → thin_steps script ≡ Some steps
-    → (exec files steps ≡ Faulted fault.statement fault.kind) × (fault.decisions ≡ 0) → RunsAs script files (Err (halt.Refused (refusal.Fault fault)))
-faulty_runs script files steps fault thin answer =
-    ap (run_verdict files) thin ∙ ap ending_verdict answer.0
-    ∙ ap (λ (d : ℕ). Refused (refusal.Fault (record { statement = fault.statement; decisions = d; kind = fault.kind }))) (sym answer.1)
+    → all.exec script files DECISIONS ≡ all_of_thin (thin.exec files steps)
+    → (thin.exec files steps ≡ thin.Faulted fault.statement fault.kind) × (fault.decisions ≡ 0) → RunsAs Run script files (Err (halt.Refused (refusal.Fault fault)))
+faulty_runs script files steps fault gives means answer =
+    thin_due script files steps (thin.Faulted fault.statement fault.kind) gives means answer.0
+    ∙ ap (λ (f : ScriptFault). Refused (refusal.Fault f)) (fault_alike fault answer.1)
+
+-- a script that is run step by step came to its end
+pub ended_steps : (decisions : ℕ) (script : Script) (files : FileMap) (stepped : Stepped) (ran : Ran) (ending : all.Ending) → all.exec script files decisions ≡ ending
+    → EndsAs ending (Ok stepped) → ran.files ≡ stepped.files → string_bytes ran.report ≡ step_line (fin.len stepped.files) stepped.decisions
+    → RunsAs (Step decisions) script files (Ok ran)
+ended_steps decisions script files stepped ran (all.stopped fault) is ends same told = absurd ends
+ended_steps decisions script files stepped ran (all.finished writes used) is ends same told =
+    let counts = any_actions script in
+    record {
+      tally = Decisions used;
+      due = ap (ending_verdict Decisions) is ∙ ap (λ (m : FileMap). Publishes m (Decisions used)) (sym ends.0 ∙ sym same);
+      actions = counts.0;
+      counted = counts.1;
+      text = told ∙ ap (step_line (fin.len stepped.files)) ends.1 ∙ ap (λ (m : FileMap). step_line (fin.len m) used) (sym same);
+    }
+
+-- or it is at fault
+pub faulty_steps : (decisions : ℕ) (script : Script) (files : FileMap) (fault : ScriptFault) (ending : all.Ending) → all.exec script files decisions ≡ ending
+    → EndsAs ending (Err (stop.Fault fault)) → RunsAs (Step decisions) script files (Err (halt.Refused (refusal.Fault fault)))
+faulty_steps decisions script files fault (all.stopped other) is ends =
+    ap (ending_verdict Decisions) is ∙ ap (λ (f : ScriptFault). Refused (refusal.Fault f)) (sym ends)
+faulty_steps decisions script files fault (all.finished writes used) is ends = absurd ends
 
 -- a run that did not come to its end
-pub running_ends : {O : Type 0} (held : O → Option Held) (name : List ℕ) (files : FileMap) (outbox : O) (written : Option (List ℕ)) (script : Script) (h : Halt) (folder : Type 0)
-    → IfOutsideFailed h folder ⊥ ⊥ → IsFound files name (Accepted script) → RunsAs script files (Err h) → Ends held Run name files outbox outbox written written (Err h)
-running_ends held name files outbox written script (halt.Refused why) folder cause found runs = ((Accepted script, found, sym runs), refl, refl)
-running_ends held name files outbox written script (halt.Failed outside.Folder) folder cause found runs = (refl, refl)
-running_ends held name files outbox written script (halt.Failed outside.Outbox) folder cause found runs = absurd cause
-running_ends held name files outbox written script (halt.Failed outside.Console) folder cause found runs = absurd cause
-running_ends held name files outbox written script (halt.Failed outside.NoMemory) folder cause found runs = inl refl
+pub running_ends : {O : Type 0} (held : O → Option Held) (task : Task) (name : List ℕ) (files : FileMap) (outbox : O) (written : Option (List ℕ)) (script : Script) (h : Halt) (folder : Type 0)
+    → IfOutsideFailed h folder ⊥ ⊥ → IsFound files name (Accepted script) → RunsAs task script files (Err h) → Ends held task name files outbox outbox written written (Err h)
+running_ends held task name files outbox written script (halt.Refused why) folder cause found runs = ((Accepted script, found, sym runs), refl, refl)
+running_ends held task name files outbox written script (halt.Failed outside.Folder) folder cause found runs = (refl, refl)
+running_ends held task name files outbox written script (halt.Failed outside.Outbox) folder cause found runs = absurd cause
+running_ends held task name files outbox written script (halt.Failed outside.Console) folder cause found runs = absurd cause
+running_ends held task name files outbox written script (halt.Failed outside.NoMemory) folder cause found runs = inl refl
 
 -- ---- publishing
 
-staging : (name : List ℕ) (files : FileMap) (script : Script) (done : Done) (Stopped : FileMap → List ℕ → Type 0) → IsFound files name (Accepted script) → RunsAs script files (Ok done)
-    → Stopped done.files (report_line (fin.len done.files) done.blocks done.actions) → EndsStaging name files Stopped
-staging name files script done Stopped found runs stopped = record {
-  published = done.files;
-  blocks = done.blocks;
-  due = (Accepted script, found, sym runs.0);
-  actions = done.actions;
-  counted = (script, found, runs.1);
-  stopped = stopped;
+staging : (task : Task) (name : List ℕ) (files : FileMap) (script : Script) (published : FileMap) (report : List ℕ) (Stopped : FileMap → List ℕ → Type 0)
+    → IsFound files name (Accepted script) → Reports task script files published report → Stopped published report → EndsStaging task name files Stopped
+staging task name files script published report Stopped found reports stopped = record {
+  published = published;
+  tally = reports.tally;
+  due = (Accepted script, found, sym reports.due);
+  actions = reports.actions;
+  counted = (script, found, reports.counted);
+  stopped = subst (Stopped published) reports.text stopped;
 }
 
 -- where all files are staged, that is as many as there are
@@ -139,17 +184,16 @@ pub gains_text : (line text : List ℕ) (old new : Option (List ℕ)) → text �
 gains_text line text old new e is = is ∙ ap (λ (t : List ℕ). option_map (λ before. before ++ t) old) e
 
 -- a run that came to its end is published, or stops
-pub publishing_ends : {O : Type 0} (held : O → Option Held) (name : List ℕ) (files : FileMap) (old new : O) (written written' : Option (List ℕ)) (script : Script) (done : Done)
-    (result : Result (Unit {0}) Halt) → IsFound files name (Accepted script) → RunsAs script files (Ok done)
-    → PublishesAs done.files (report_line (fin.len done.files) done.blocks done.actions) (held old) (held new) written written' result
-    → Ends held Run name files old new written written' result
-publishing_ends held name files old new written written' script done (Ok _) found runs publishes = record {
-  verdict = Publishes done.files done.blocks;
-  due = (Accepted script, found, sym runs.0);
+pub publishing_ends : {O : Type 0} (held : O → Option Held) (task : Task) (name : List ℕ) (files : FileMap) (old new : O) (written written' : Option (List ℕ)) (script : Script) (ran : Ran)
+    (result : Result (Unit {0}) Halt) → IsFound files name (Accepted script) → RunsAs task script files (Ok ran)
+    → PublishesAs ran.files (string_bytes ran.report) (held old) (held new) written written' result → Ends held task name files old new written written' result
+publishing_ends held task name files old new written written' script ran (Ok _) found runs publishes = record {
+  verdict = Publishes ran.files runs.tally;
+  due = (Accepted script, found, sym runs.due);
   well = refl;
-  actions = done.actions;
-  counted = (script, found, runs.1);
-  text = publishes.1;
+  actions = runs.actions;
+  counted = (script, found, runs.counted);
+  text = subst (λ (report : List ℕ). Gains report written written') runs.text publishes.1;
   outbox = record {
     done = λ _. publishes.0;
     count = 0;
@@ -158,14 +202,14 @@ publishing_ends held name files old new written written' script done (Ok _) foun
     stopped = λ five. absurd (omega (arith, five));
   };
 }
-publishing_ends held name files old new written written' script done (Err (halt.Refused why)) found runs publishes = absurd publishes
-publishing_ends held name files old new written written' script done (Err (halt.Failed outside.Folder)) found runs publishes = absurd publishes
-publishing_ends held name files old new written written' script done (Err (halt.Failed outside.Outbox)) found runs publishes =
-    (refl, staging name files script done (λ published report. StopsStaging published report (held old) (held new) written written') found runs publishes)
-publishing_ends held name files old new written written' script done (Err (halt.Failed outside.Console)) found runs publishes =
-    inr (refl, staging name files script done (λ published report. StagesFront published (held old) (held new)) found runs publishes)
-publishing_ends held name files old new written written' script done (Err (halt.Failed outside.NoMemory)) found runs publishes =
-    inr (refl, staging name files script done (λ published report. StagesFront published (held old) (held new)) found runs publishes)
+publishing_ends held task name files old new written written' script ran (Err (halt.Refused why)) found runs publishes = absurd publishes
+publishing_ends held task name files old new written written' script ran (Err (halt.Failed outside.Folder)) found runs publishes = absurd publishes
+publishing_ends held task name files old new written written' script ran (Err (halt.Failed outside.Outbox)) found runs publishes =
+    staging task name files script ran.files (string_bytes ran.report) (λ published report. StopsStaging published report (held old) (held new) written written') found runs publishes
+publishing_ends held task name files old new written written' script ran (Err (halt.Failed outside.Console)) found runs publishes =
+    inr (staging task name files script ran.files (string_bytes ran.report) (λ published report. StagesFront published (held old) (held new)) found runs publishes)
+publishing_ends held task name files old new written written' script ran (Err (halt.Failed outside.NoMemory)) found runs publishes =
+    inr (staging task name files script ran.files (string_bytes ran.report) (λ published report. StagesFront published (held old) (held new)) found runs publishes)
 
 -- ---- showing
 
@@ -198,20 +242,21 @@ showing_ends held shown name files outbox written written' (Err (halt.Failed out
 
 -- ---- the usage line
 
-ended_apart : (ending : Ending) → Refused refusal.Usage ≡ ending_verdict ending → ⊥
-ended_apart (Faulted statement kind) e = cc
-ended_apart (Finished writes) e = cc
+ended_apart : (tally : ℕ → Tally) (ending : all.Ending) → Refused refusal.Usage ≡ ending_verdict tally ending → ⊥
+ended_apart tally (all.stopped fault) e = cc
+ended_apart tally (all.finished writes used) e = cc
 
-run_apart : (files : FileMap) (found : Option (List ThinStep)) → Refused refusal.Usage ≡ run_verdict files found → ⊥
-run_apart files None e = cc
-run_apart files (Some steps) e = ended_apart (exec files steps) e
+run_apart : (files : FileMap) (script : Script) (found : Option (List ThinStep)) → Refused refusal.Usage ≡ run_verdict files script found → ⊥
+run_apart files script None e = cc
+run_apart files script (Some steps) e = ended_apart (λ used. Blocks 1) (all.exec script files DECISIONS) e
 
 -- no task is due the usage line
 usage_apart : (task : Task) (name : List ℕ) (files : FileMap) (found : Found) → Refused refusal.Usage ≡ verdict_for task name files found → ⊥
 usage_apart task name files Missing e = cc
 usage_apart task name files (Misspelled place) e = cc
 usage_apart task name files (Rejected statement code) e = cc
-usage_apart Run name files (Accepted script) e = run_apart files (thin_steps script) e
+usage_apart Run name files (Accepted script) e = run_apart files script (thin_steps script) e
+usage_apart (Step decisions) name files (Accepted script) e = ended_apart Decisions (all.exec script files decisions) e
 usage_apart (Check shown) name files (Accepted script) e = cc
 
 -- so a task never ends with the status 2

@@ -42,26 +42,26 @@ use Rattle.mit_app.specs.ThinScript.{assigned_step, before_steps, is_read, name_
 -- ---- options and tests
 
 -- equal options have equal items
-same_Some : {A : Type 0} (a b : A) → Some a ≡ Some b → a ≡ b
+pub same_Some : {A : Type 0} (a b : A) → Some a ≡ Some b → a ≡ b
 same_Some a b is = cc
 
 -- where a test guards an item that is there, the test holds
-given_by : {A : Type 0} (test : Bool) (found : Option A) (item : A) → (if test then found else None) ≡ Some item → (test ≡ true) × (found ≡ Some item)
+pub given_by : {A : Type 0} (test : Bool) (found : Option A) (item : A) → (if test then found else None) ≡ Some item → (test ≡ true) × (found ≡ Some item)
 given_by true found item is = (refl, is)
 given_by false found item is = absurd cc
 
 -- a mapped item comes from one
-mapped_from : {A B : Type 0} (f : A → B) (found : Option A) (item : B) → option_map f found ≡ Some item → (a : A) × (found ≡ Some a) × (f a ≡ item)
+pub mapped_from : {A B : Type 0} (f : A → B) (found : Option A) (item : B) → option_map f found ≡ Some item → (a : A) × (found ≡ Some a) × (f a ≡ item)
 mapped_from f None item is = absurd cc
 mapped_from f (Some a) item is = (a, refl, same_Some (f a) item is)
 
 -- ---- lists
 
 -- what holds of the items of joined lists holds of those of the first, and of the second
-all_front : {X : Type 0} (P : X → Type 0) (xs ys : List X) → All P (xs ++ ys) → All P xs
+pub all_front : {X : Type 0} (P : X → Type 0) (xs ys : List X) → All P (xs ++ ys) → All P xs
 all_front P xs ys all = subst (All P) (take_at xs ys (length xs) refl) (All-take P (length xs) (xs ++ ys) all)
 
-all_back : {X : Type 0} (P : X → Type 0) (xs ys : List X) → All P (xs ++ ys) → All P ys
+pub all_back : {X : Type 0} (P : X → Type 0) (xs ys : List X) → All P (xs ++ ys) → All P ys
 all_back P xs ys all = subst (All P) (drop_at xs ys (length xs) refl) (All-drop P (length xs) (xs ++ ys) all)
 
 -- what is written at a place is read there
@@ -161,11 +161,11 @@ agrees_new variables known columns target type now within kept new = record {
 -- ---- the columns after an assignment
 
 -- a variable that has columns keeps them
-columns_kept : (columns : List ℕ) (target count : ℕ) → target < length columns → columns_after columns target count ≡ columns
+pub columns_kept : (columns : List ℕ) (target count : ℕ) → target < length columns → columns_after columns target count ≡ columns
 columns_kept columns target count below = ap (λ test. if test then columns else columns ++ count ∷ []) (lt-ltb target (length columns) below)
 
 -- the next variable gets its columns
-columns_grow : (columns : List ℕ) (target count : ℕ) → target ≡ length columns → columns_after columns target count ≡ columns ++ count ∷ []
+pub columns_grow : (columns : List ℕ) (target count : ℕ) → target ≡ length columns → columns_after columns target count ≡ columns ++ count ∷ []
 columns_grow columns target count new = ap (λ test. if test then columns else columns ++ count ∷ []) (le-ltb target (length columns) (omega arith))
 
 -- a type that is kept has as many columns as the first one
@@ -500,7 +500,7 @@ and_from (Err why) next last is = absurd cc
 and_from (Ok a) next last is = (a, refl, is)
 
 -- where steps are there, the first one and the later ones are
-before_from : (first : Option ThinStep) (more : Option (List ThinStep)) (steps : List ThinStep) → before_steps first more ≡ Some steps
+pub before_from : (first : Option ThinStep) (more : Option (List ThinStep)) (steps : List ThinStep) → before_steps first more ≡ Some steps
     → (one : ThinStep) × (later : List ThinStep) × (first ≡ Some one) × (more ≡ Some later) × (one ∷ later ≡ steps)
 before_from None more steps is = absurd cc
 before_from (Some one) None steps is = absurd cc

@@ -1,12 +1,14 @@
 -- The words of a command line that were compared.
-use Rattle.std.proofs.Common.{◌≡◌, ◌∙◌, ◌<◌, ◌≤◌, ℕ, List, [], ◌∷◌, length, get_or, ap, sym, arith}
-use Rattle.std.specs.Prelude.{Bool, true, false, String, string_bytes, codes}
+use Rattle.std.proofs.Common.{◌≡◌, ◌∙◌, ◌<◌, ◌≤◌, ℕ, List, [], ◌∷◌, length, get_or, ap, sym, subst, refl, inl, inr, arith}
+use Rattle.std.specs.Prelude.{Bool, true, false, IfNone, Option, Some, None, String, string_bytes, codes}
 use Rattle.std.specs.Str.{bytes_eq}
 use Rattle.std.proofs.lemmas.Slice.Eq.{bytes_eq-Decides}
 use Rattle.std.proofs.lemmas.Bool.{and_parts, leb-true}
 use Rattle.mit_shelf.specs.Names.{IsLegal, is_legal}
-use Rattle.mit_app.specs.Due.{IsCommand, IsUsage, texts}
-use Rattle.mit_app.specs.declared.words.Task.TheVariants.{Run, Check}
+use Rattle.mit_app.specs.Due.{AreDecisions, IsCommand, IsUsage, texts}
+use Rattle.mit_app.specs.Ends.{IsStepped, IsSteppedWithin}
+use Rattle.mit_app.specs.declared.words.Task.TheVariants.{Run, Step, Check}
+use Rattle.mit_app.specs.declared.words.TheConstants.{DECISIONS}
 
 -- a list of four elements is these
 four : {X : Type 0} (xs : List X) (a b c d : X) → 4 ≤ length xs → length xs < 5 → a ≡ get_or xs 0 a → b ≡ get_or xs 1 b → c ≡ get_or xs 2 c → d ≡ get_or xs 3 d
@@ -54,14 +56,43 @@ three (w ∷ x ∷ []) a b c least most i j k = absurd (omega arith)
 three (w ∷ x ∷ y ∷ []) a b c least most i j k = cc
 three (w ∷ x ∷ y ∷ z ∷ rest) a b c least most i j k = absurd (omega arith)
 
-pub check_words : {A : Type 0} (words : List (String A)) (check script : String A) (c s : List ℕ) (cb : Bool)
-    → 2 ≤ length words → length words < 3 → check ≡ get_or words 0 check → script ≡ get_or words 1 script
-    → c ≡ string_bytes check → s ≡ string_bytes script → cb ≡ bytes_eq c (codes "check") → cb ≡ true
-    → texts words ≡ codes "check" ∷ s ∷ []
-check_words words check script c s cb least most i j ci si ca cy =
-    let list = two words check script least most i j in
-    let a = same_text (string_bytes check) c (codes "check") cb ci ca cy in
-    ap texts list ∙ ap (λ t. t ∷ string_bytes script ∷ []) a ∙ ap (λ t. codes "check" ∷ t ∷ []) (sym si)
+pub two_words : {A : Type 0} (words : List (String A)) (command : List ℕ) (first script : String A) (f s : List ℕ) (fb : Bool)
+    → 2 ≤ length words → length words < 3 → first ≡ get_or words 0 first → script ≡ get_or words 1 script
+    → f ≡ string_bytes first → s ≡ string_bytes script → fb ≡ bytes_eq f command → fb ≡ true
+    → texts words ≡ command ∷ s ∷ []
+two_words words command first script f s fb least most i j fi si fa fy =
+    let list = two words first script least most i j in
+    let a = same_text (string_bytes first) f command fb fi fa fy in
+    ap texts list ∙ ap (λ t. t ∷ string_bytes script ∷ []) a ∙ ap (λ t. command ∷ t ∷ []) (sym si)
+
+pub within_words : {A : Type 0} (words : List (String A)) (step script within number : String A) (t w s n : List ℕ) (tb wb : Bool)
+    → 4 ≤ length words → length words < 5 → step ≡ get_or words 0 step → script ≡ get_or words 1 script → within ≡ get_or words 2 within → number ≡ get_or words 3 number
+    → t ≡ string_bytes step → w ≡ string_bytes within → s ≡ string_bytes script → n ≡ string_bytes number
+    → tb ≡ bytes_eq t (codes "step") → tb ≡ true → wb ≡ bytes_eq w (codes "--decisions") → wb ≡ true
+    → texts words ≡ codes "step" ∷ s ∷ codes "--decisions" ∷ n ∷ []
+within_words words step script within number t w s n tb wb least most i j k l ti wi si ni ta ty wa wy =
+    let list = four words step script within number least most i j k l in
+    let a = same_text (string_bytes step) t (codes "step") tb ti ta ty in
+    let b = same_text (string_bytes within) w (codes "--decisions") wb wi wa wy in
+    ap texts list ∙ ap (λ x. x ∷ string_bytes script ∷ string_bytes within ∷ string_bytes number ∷ []) a
+    ∙ ap (λ x. codes "step" ∷ string_bytes script ∷ x ∷ string_bytes number ∷ []) b
+    ∙ ap (λ x. codes "step" ∷ x ∷ codes "--decisions" ∷ string_bytes number ∷ []) (sym si)
+    ∙ ap (λ x. codes "step" ∷ s ∷ codes "--decisions" ∷ x ∷ []) (sym ni)
+
+-- words of a run step by step are a command
+pub stepped_command : (words : List (List ℕ)) (script : List ℕ) → IsStepped words script → IsCommand words (Step DECISIONS) script
+stepped_command words script is = (inl (is.0, refl), is.1)
+
+pub within_command : (words : List (List ℕ)) (decisions : ℕ) (script : List ℕ) → IsSteppedWithin words decisions script → IsCommand words (Step decisions) script
+within_command words decisions script is = (inr (is.0, is.1, is.2), is.3)
+
+-- the number of such words is that of the list
+pub within_number : (words : List (List ℕ)) (s n : List ℕ) (decisions : ℕ) (script : List ℕ) → words ≡ codes "step" ∷ s ∷ codes "--decisions" ∷ n ∷ []
+    → ((other : ℕ) → ¬ AreDecisions n other) → ¬ IsSteppedWithin words decisions script
+within_number words s n decisions script list none is =
+    let e = sym is.1 ∙ list in
+    let same : is.0 ≡ n = cc in
+    none decisions (subst (λ (word : List ℕ). AreDecisions word decisions) same is.2)
 
 pub print_words : {A : Type 0} (words : List (String A)) (check script print : String A) (c p s : List ℕ) (cb pb : Bool)
     → 3 ≤ length words → length words < 4 → check ≡ get_or words 0 check → script ≡ get_or words 1 script → print ≡ get_or words 2 print
@@ -76,12 +107,24 @@ print_words words check script print c p s cb pb least most i j k ci pi si ca cy
     ∙ ap (λ t. codes "check" ∷ string_bytes script ∷ t ∷ []) b
     ∙ ap (λ t. codes "check" ∷ t ∷ codes "--print" ∷ []) (sym si)
 
+-- what holds where there is nothing
+pub told_none : {A P : Type 0} (found : Option A) → P → IfNone found P
+told_none None p = p
+told_none (Some found) p = tt
+
 -- words that are none of the commands
-pub usage_of : (words : List (List ℕ)) → ((script : List ℕ) → ¬ IsCommand words Run script) → ((script : List ℕ) → ¬ IsCommand words (Check false) script)
+no_step : (words : List (List ℕ)) (decisions : ℕ) (script : List ℕ) → ((script : List ℕ) → ¬ IsStepped words script)
+    → ((script : List ℕ) (decisions : ℕ) → ¬ IsSteppedWithin words decisions script) → ¬ IsCommand words (Step decisions) script
+no_step words decisions script plain within (inl is, legal) = plain script (is.0, legal)
+no_step words decisions script plain within (inr is, legal) = within script decisions (is.0, is.1, is.2, legal)
+
+pub usage_of : (words : List (List ℕ)) → ((script : List ℕ) → ¬ IsCommand words Run script) → ((script : List ℕ) → ¬ IsStepped words script)
+    → ((script : List ℕ) (decisions : ℕ) → ¬ IsSteppedWithin words decisions script) → ((script : List ℕ) → ¬ IsCommand words (Check false) script)
     → ((script : List ℕ) → ¬ IsCommand words (Check true) script) → IsUsage words
-usage_of words run check print Run script = run script
-usage_of words run check print (Check false) script = check script
-usage_of words run check print (Check true) script = print script
+usage_of words run plain within check print Run script = run script
+usage_of words run plain within check print (Step decisions) script = no_step words decisions script plain within
+usage_of words run plain within check print (Check false) script = check script
+usage_of words run plain within check print (Check true) script = print script
 
 -- a legal name is short
 pub legal_short : (name : List ℕ) → IsLegal name → length name ≤ 64

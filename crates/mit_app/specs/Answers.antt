@@ -42,8 +42,8 @@ pub record Publishing (files : FileMap) (report : List ℕ) (status : ℕ) (old 
 abbrev pub Leaves : {O : Type 0} → (O → Option Held) → Verdict → ℕ → ℕ → O → O → Option (List ℕ) → Option (List ℕ) → Type 0
 Leaves held (Refused why) actions status old new written written' = (new ≡ old) × (status ≢ outside_status outside.Outbox)
 Leaves held (Accepts count shown) actions status old new written written' = (new ≡ old) × (status ≢ outside_status outside.Outbox)
-Leaves held (Publishes files blocks) actions status old new written written' =
-    Publishing files (console_text (Publishes files blocks) actions) status (held old) (held new) written written'
+Leaves held (Publishes files tally) actions status old new written written' =
+    Publishing files (console_text (Publishes files tally) actions) status (held old) (held new) written written'
 
 -- a call over these words and files: a verdict is due, and the status is its own, with its text on the console, or one of the outside
 pub record Answers {O : Type 0} (held : O → Option Held) (words : List (List ℕ)) (files : FileMap) (status : ℕ) (old new : O)

@@ -1,7 +1,8 @@
 -- What is due over the words of a call and the files of a folder.
-use Rattle.std.specs.Prelude.{◌≡◌, ⊤, ◌⊎◌, ℕ, List, [], ◌∷◌, ◌++◌, codes, map, Bool, true, false, if◌then◌else◌, Option, Some, None, Ok, Err}
+use Rattle.std.specs.Prelude.{◌≡◌, ◌≤◌, ⊤, ◌⊎◌, ℕ, length, List, [], ◌∷◌, ◌++◌, codes, map, Bool, true, false, if◌then◌else◌, Option, Some, None, Ok, Err}
 use Rattle.std.specs.Prelude.{String, string_bytes}
 use Rattle.std.specs.FinMap as fin
+use Rattle.mit_rows.specs.Integers.{magnitude}
 use Rattle.mit_world.specs.Files.{FileMap}
 use Rattle.mit_shelf.specs.Names.{IsLegal}
 use Rattle.mit_shelf.specs.Printed.{published}
@@ -13,15 +14,17 @@ use Rattle.mit_script.specs.Trees.{statements_of}
 use Rattle.mit_script.specs.declared.tree.Script.{Script}
 use Rattle.mit_script.specs.declared.typed.CheckCode.{CheckCode}
 use Rattle.mit_parse.specs.Places.{IsRefusedAt}
-use Rattle.mit_engine.specs.Thin.{Ending, Faulted, Finished, actions_of, exec}
+use Rattle.mit_script.specs.Execution.{Ending, exec, finished, stopped}
+use Rattle.mit_engine.specs.Thin.{actions_of}
 use Rattle.mit_engine.specs.declared.thin.ThinStep.{ThinStep}
-use Rattle.mit_app.specs.Lines.{accepted_line, refusal_line, report_line}
+use Rattle.mit_app.specs.Lines.{accepted_line, refusal_line, report_line, step_line}
 use Rattle.mit_app.specs.Statuses.{refusal_status}
 use Rattle.mit_app.specs.ThinScript.{thin_steps}
 use Rattle.mit_app.specs.declared.ends.Refusal.{Refusal}
 use Rattle.mit_app.specs.declared.ends.Refusal.TheVariants as refusal
 use Rattle.mit_app.specs.declared.words.Task.{Task}
-use Rattle.mit_app.specs.declared.words.Task.TheVariants.{Run, Check}
+use Rattle.mit_app.specs.declared.words.Task.TheVariants.{Run, Step, Check}
+use Rattle.mit_app.specs.declared.words.TheConstants.{DECISIONS, MAX_DECISIONS}
 
 -- ---- words
 
@@ -29,15 +32,22 @@ use Rattle.mit_app.specs.declared.words.Task.TheVariants.{Run, Check}
 abbrev pub texts : {A : Type 0} → List (String A) → List (List ℕ)
 texts words = map string_bytes words
 
--- the words of a task with a script of this name
-abbrev pub words_for : Task → List ℕ → List (List ℕ)
-words_for Run script = codes "run" ∷ script ∷ codes "--parts" ∷ codes "1" ∷ []
-words_for (Check false) script = codes "check" ∷ script ∷ []
-words_for (Check true) script = codes "check" ∷ script ∷ codes "--print" ∷ []
+-- a word for a number of decisions: 1 to 20 digits, with a value from 1 to the most decisions
+abbrev pub AreDecisions : List ℕ → ℕ → Type 0
+AreDecisions word decisions = (magnitude MAX_DECISIONS word ≡ Some decisions) × (length word ≤ 20) × (1 ≤ decisions)
+
+-- the words are those of a task with a script of this name
+abbrev pub AreWordsFor : Task → List (List ℕ) → List ℕ → Type 0
+AreWordsFor Run words script = words ≡ codes "run" ∷ script ∷ codes "--parts" ∷ codes "1" ∷ []
+AreWordsFor (Step decisions) words script =
+    ((words ≡ codes "step" ∷ script ∷ []) × (decisions ≡ DECISIONS))
+    ⊎ ((number : List ℕ) × (words ≡ codes "step" ∷ script ∷ codes "--decisions" ∷ number ∷ []) × AreDecisions number decisions)
+AreWordsFor (Check false) words script = words ≡ codes "check" ∷ script ∷ []
+AreWordsFor (Check true) words script = words ≡ codes "check" ∷ script ∷ codes "--print" ∷ []
 
 -- the words are that command, and SCRIPT is a legal file name
 abbrev pub IsCommand : List (List ℕ) → Task → List ℕ → Type 0
-IsCommand words task script = (words ≡ words_for task script) × IsLegal script
+IsCommand words task script = AreWordsFor task words script × IsLegal script
 
 -- the words are no command
 abbrev pub IsUsage : List (List ℕ) → Type 0
@@ -72,27 +82,34 @@ IsFound files name found = IsFoundIn (fin.get files name) found
 
 -- ---- what is due
 
+-- what a report counts beside the files: the blocks that a run went through, or the decisions of the interpreter
+pub data Tally : Type 0 where
+  Blocks : ℕ → Tally
+  Decisions : ℕ → Tally
+
 -- how a call ends by itself
 pub data Verdict : Type 0 where
   -- the words, the files or the script are refused
   Refused : Refusal → Verdict
-  -- the script ran through so many blocks, and these files are published
-  Publishes : FileMap → ℕ → Verdict
+  -- the script came to its end, and these files are published
+  Publishes : FileMap → Tally → Verdict
   -- it is accepted: how many statements it has, and the text that is shown
   Accepts : ℕ → List ℕ → Verdict
 
--- the step-by-step interpreter ended so; a thin script has one block, and no decisions
-abbrev pub ending_verdict : Ending → Verdict
-ending_verdict (Faulted statement kind) = Refused (refusal.Fault (record { statement = statement; decisions = 0; kind = kind }))
-ending_verdict (Finished writes) = Publishes (published writes) 1
+-- the step-by-step interpreter ended so; a tally is made of the number of its decisions
+abbrev pub ending_verdict : (ℕ → Tally) → Ending → Verdict
+ending_verdict tally (stopped fault) = Refused (refusal.Fault fault)
+ending_verdict tally (finished writes used) = Publishes (published writes) (tally used)
 
-abbrev pub run_verdict : FileMap → Option (List ThinStep) → Verdict
-run_verdict files None = Refused refusal.NotThin
-run_verdict files (Some steps) = ending_verdict (exec files steps)
+-- a thin script runs, and goes through one block
+abbrev pub run_verdict : FileMap → Script → Option (List ThinStep) → Verdict
+run_verdict files script None = Refused refusal.NotThin
+run_verdict files script (Some steps) = ending_verdict (λ used. Blocks 1) (exec script files DECISIONS)
 
 -- what a task makes of an accepted script
 abbrev pub task_verdict : Task → FileMap → Script → Verdict
-task_verdict Run files script = run_verdict files (thin_steps script)
+task_verdict Run files script = run_verdict files script (thin_steps script)
+task_verdict (Step decisions) files script = ending_verdict Decisions (exec script files decisions)
 task_verdict (Check shown) files script = Accepts (statements_of script) (if shown then printed script else [])
 
 -- what a task makes of what is found
@@ -125,11 +142,16 @@ RunsIn words files actions = (name : List ℕ) → IsCommand words Run name → 
 
 abbrev pub status_of : Verdict → ℕ
 status_of (Refused why) = refusal_status why
-status_of (Publishes files blocks) = 0
+status_of (Publishes files tally) = 0
 status_of (Accepts count shown) = 0
 
--- the text that the console gains, where a run took so many actions
+-- the report on a script that came to its end, where its run took so many actions
+abbrev pub report_of : ℕ → Tally → ℕ → List ℕ
+report_of files (Blocks blocks) actions = report_line files blocks actions
+report_of files (Decisions decisions) actions = step_line files decisions
+
+-- the text that the console gains
 abbrev pub console_text : Verdict → ℕ → List ℕ
 console_text (Refused why) actions = refusal_line why
-console_text (Publishes files blocks) actions = report_line (fin.len files) blocks actions
+console_text (Publishes files tally) actions = report_of (fin.len files) tally actions
 console_text (Accepts count shown) actions = accepted_line count ++ shown

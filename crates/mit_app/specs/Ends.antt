@@ -1,23 +1,34 @@
 -- Devices of the proofs: nobody has to believe them. How the parts of the top call end, in the words of their private contracts.
-use Rattle.std.specs.Prelude.{◌≡◌, ⊤, ◌⊎◌, ◌<◌, ◌≤◌, ℕ, List, Bool, Option, Some, Result, Ok, Err}
+use Rattle.std.specs.Prelude.{◌≡◌, ⊤, ◌⊎◌, ◌<◌, ◌≤◌, ℕ, List, [], ◌∷◌, codes, string_bytes, Bool, Option, Some, Result, Ok, Err}
 use Rattle.std.specs.FinMap as fin
 use Rattle.mit_world.specs.Files.{FileMap}
 use Rattle.mit_world.specs.Outside.{Held}
 use Rattle.mit_engine.specs.Thin.{actions_of}
-use Rattle.mit_engine.specs.declared.thin.Done.{Done}
 use Rattle.mit_engine.specs.declared.thin.ThinStep.{ThinStep}
+use Rattle.mit_shelf.specs.Names.{IsLegal}
 use Rattle.mit_script.specs.declared.tree.Script.{Script}
 use Rattle.mit_script.specs.declared.typed.Typed.{Typed}
 use Rattle.mit_app.specs.Answers.{Gains, Leaves, PublishesAll, Stages}
-use Rattle.mit_app.specs.Due.{Accepted, DueFor, Found, IsFound, IsFoundIn, Publishes, Refused, Verdict, status_of, task_verdict, console_text, verdict_for}
+use Rattle.mit_app.specs.Due.{Accepted, AreDecisions, DueFor, Found, IsFound, IsFoundIn, Publishes, Refused, Tally, Verdict, status_of, task_verdict, console_text, verdict_for}
 use Rattle.mit_app.specs.Lines.{outside_line, refusal_line}
 use Rattle.mit_app.specs.Statuses.{outside_status, refusal_status}
 use Rattle.mit_app.specs.ThinScript.{thin_steps}
 use Rattle.mit_app.specs.declared.ends.Halt.{Halt}
 use Rattle.mit_app.specs.declared.ends.Halt.TheVariants as halt
 use Rattle.mit_app.specs.declared.ends.Outside.TheVariants as outside
+use Rattle.mit_app.specs.declared.publish.Ran.{Ran}
 use Rattle.mit_app.specs.declared.words.Task.{Task}
-use Rattle.mit_app.specs.declared.words.Task.TheVariants.{Run, Check}
+use Rattle.mit_app.specs.declared.words.Task.TheVariants.{Run, Step, Check}
+
+-- ---- words
+
+-- the words of a run step by step, without and with a number of decisions
+abbrev pub IsStepped : List (List ℕ) → List ℕ → Type 0
+IsStepped words script = (words ≡ codes "step" ∷ script ∷ []) × IsLegal script
+
+abbrev pub IsSteppedWithin : List (List ℕ) → ℕ → List ℕ → Type 0
+IsSteppedWithin words decisions script =
+    (number : List ℕ) × (words ≡ codes "step" ∷ script ∷ codes "--decisions" ∷ number ∷ []) × AreDecisions number decisions × IsLegal script
 
 -- ---- statuses, lines and causes
 
@@ -47,6 +58,7 @@ IfLine (halt.Failed outside.NoMemory) fact = ⊤
 
 abbrev pub IsCheckTask : Task → Type 0
 IsCheckTask Run = ⊥
+IsCheckTask (Step decisions) = ⊥
 IsCheckTask (Check shown) = ⊤
 
 -- ---- reading, running and publishing
@@ -69,12 +81,19 @@ abbrev pub Counted : List ℕ → FileMap → ℕ → Type 0
 Counted name files actions = (script : Script) × IsFound files name (Accepted script)
     × ((steps : List ThinStep) → thin_steps script ≡ Some steps → actions ≡ actions_of steps)
 
+-- these files and this report are those of a task with an accepted script
+pub record Reports (task : Task) (script : Script) (files published : FileMap) (report : List ℕ) : Type 0 where
+  pub tally : Tally
+  pub due : task_verdict task files script ≡ Publishes published tally
+  pub actions : ℕ
+  pub counted : (steps : List ThinStep) → thin_steps script ≡ Some steps → actions ≡ actions_of steps
+  pub text : report ≡ console_text (Publishes published tally) actions
+
 -- a run of an accepted script came to its end, or not
-abbrev pub RunsAs : Script → FileMap → Result Done Halt → Type 0
-RunsAs script files (Ok done) = (task_verdict Run files script ≡ Publishes done.files done.blocks)
-    × ((steps : List ThinStep) → thin_steps script ≡ Some steps → done.actions ≡ actions_of steps)
-RunsAs script files (Err (halt.Refused why)) = task_verdict Run files script ≡ Refused why
-RunsAs script files (Err (halt.Failed why)) = ⊤
+abbrev pub RunsAs : Task → Script → FileMap → Result Ran Halt → Type 0
+RunsAs task script files (Ok ran) = Reports task script files ran.files (string_bytes ran.report)
+RunsAs task script files (Err (halt.Refused why)) = task_verdict task files script ≡ Refused why
+RunsAs task script files (Err (halt.Failed why)) = ⊤
 
 -- so many of these files are staged
 abbrev pub StagesFront : FileMap → Option Held → Option Held → Type 0
@@ -118,13 +137,13 @@ pub record EndsWell {O : Type 0} (held : O → Option Held) (task : Task) (name 
   pub outbox : Leaves held verdict actions 0 old new written written'
 
 -- a publication was due and stopped
-pub record EndsStaging (name : List ℕ) (files : FileMap) (Stopped : FileMap → List ℕ → Type 0) : Type 0 where
+pub record EndsStaging (task : Task) (name : List ℕ) (files : FileMap) (Stopped : FileMap → List ℕ → Type 0) : Type 0 where
   pub published : FileMap
-  pub blocks : ℕ
-  pub due : DueFor Run name files (Publishes published blocks)
+  pub tally : Tally
+  pub due : DueFor task name files (Publishes published tally)
   pub actions : ℕ
   pub counted : Counted name files actions
-  pub stopped : Stopped published (console_text (Publishes published blocks) actions)
+  pub stopped : Stopped published (console_text (Publishes published tally) actions)
 
 -- a task with a script of this name ended; where nothing was published, outbox and console may be as they were
 abbrev pub Ends : {O : Type 0} → (O → Option Held) → Task → List ℕ → FileMap → O → O → Option (List ℕ) → Option (List ℕ) → Result (Unit {0}) Halt → Type 0
@@ -132,8 +151,8 @@ Ends held task name files old new written written' (Ok _) = EndsWell held task n
 Ends held task name files old new written written' (Err (halt.Refused why)) = DueFor task name files (Refused why) × (new ≡ old) × (written' ≡ written)
 Ends held task name files old new written written' (Err (halt.Failed outside.Folder)) = (new ≡ old) × (written' ≡ written)
 Ends held task name files old new written written' (Err (halt.Failed outside.Outbox)) =
-    (task ≡ Run) × EndsStaging name files (λ published report. StopsStaging published report (held old) (held new) written written')
+    EndsStaging task name files (λ published report. StopsStaging published report (held old) (held new) written written')
 Ends held task name files old new written written' (Err (halt.Failed outside.Console)) =
-    (new ≡ old) ⊎ ((task ≡ Run) × EndsStaging name files (λ published report. StagesFront published (held old) (held new)))
+    (new ≡ old) ⊎ EndsStaging task name files (λ published report. StagesFront published (held old) (held new))
 Ends held task name files old new written written' (Err (halt.Failed outside.NoMemory)) =
-    (new ≡ old) ⊎ ((task ≡ Run) × EndsStaging name files (λ published report. StagesFront published (held old) (held new)))
+    (new ≡ old) ⊎ EndsStaging task name files (λ published report. StagesFront published (held old) (held new))

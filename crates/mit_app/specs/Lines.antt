@@ -19,6 +19,10 @@ abbrev pub report_line : ℕ → ℕ → ℕ → List ℕ
 report_line files blocks actions =
     line_of_parts (codes "files " ∷ decimal files ∷ codes ", blocks " ∷ decimal blocks ∷ codes ", actions " ∷ decimal actions ∷ [])
 
+-- how the step-by-step interpreter ended: its files and its decisions
+abbrev pub step_line : ℕ → ℕ → List ℕ
+step_line files decisions = line_of_parts (codes "files " ∷ decimal files ∷ codes ", decisions " ∷ decimal decisions ∷ [])
+
 abbrev pub accepted_line : ℕ → List ℕ
 accepted_line count = line_of_parts (codes "accepted, statements " ∷ decimal count ∷ [])
 

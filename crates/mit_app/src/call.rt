@@ -16,8 +16,10 @@ ghost use Rattle.mit_app.specs.declared.words.Task.TheVariants as task;
 use crate::check::show;
 use crate::ends::{Halt, Outside, Refusal};
 use crate::lines::halted;
-use crate::run::{publish, run};
+use crate::publish::publish;
+use crate::run::run;
 use crate::script::read_script;
+use crate::step::step;
 use crate::words::{Task, command_of};
 use mit_engine::{Schedule, Seeded};
 use mit_parse::laws::one_reading;
@@ -30,8 +32,9 @@ use std::alloc::Global;
 ///
 /// - 0: the script's files are published, and the console has gained the report; or the script is accepted;
 /// - 1: the script is at fault;
-/// - 2: the words are not `run SCRIPT --parts 1`, `check SCRIPT` or `check SCRIPT --print` with a legal file name;
-/// - 3: no script is spelled, the check refuses a statement, or the script cannot be run yet;
+/// - 2: the words are not `run SCRIPT --parts 1`, `step SCRIPT`, `step SCRIPT --decisions N`, `check SCRIPT` or `check SCRIPT --print`,
+///   with a legal file name and a number from 1 to 1,000,000;
+/// - 3: no script is spelled, the check refuses a statement, or the script is to be run and cannot be run yet;
 /// - 4, 5, 6: the folder, the outbox or the console failed;
 /// - 7: memory ran out;
 /// - 9: the folder has no such script.
@@ -117,6 +120,9 @@ fn perform<F: Folder, O: Outbox, C: Console>(
             drop(schedule);
             ended
         }
+        Task::Step { decisions } => {
+            step_and_publish(alloc, name, decisions, shelf, folder, outbox, console)
+        }
         Task::Check { print } => show(alloc, name, print, shelf, folder, console),
     }
 }
@@ -148,11 +154,45 @@ pub(crate) fn run_and_publish<S: Schedule, F: Folder, O: Outbox, C: Console>(
         Ok(typed) => typed,
         Err(halt) => return Err(halt),
     };
-    let done = match run(alloc, &typed, schedule, shelf, folder) {
-        Ok(done) => done,
+    let ran = match run(alloc, &typed, schedule, shelf, folder) {
+        Ok(ran) => ran,
         Err(halt) => return Err(halt),
     };
-    publish(alloc, &done, outbox, console)
+    publish(&ran, outbox, console)
+}
+
+// Runs the script of this name step by step, with at most so many decisions, and publishes its files.
+fn step_and_publish<F: Folder, O: Outbox, C: Console>(
+    alloc: Global,
+    name: &str,
+    decisions: u32,
+    shelf: &mut Shelf,
+    folder: &mut F,
+    outbox: &mut O,
+    console: &mut C,
+) -> Result<(), Halt>
+    requires { IsLegal name.now }
+    ensures ends { (files : FileMap) → Agrees shelf.new files
+        → Ends O.held (task.Step decisions) name.now files outbox.old outbox.new (C.written console.old) (C.written console.new) result }
+    ensures unpublished { OnErr result (published_in (O.held outbox.new) ≡ published_in (O.held outbox.old)) }
+    ensures agrees { IfSome (F.files folder.old) (λ files. Agrees shelf.old files → Agrees shelf.new files) }
+    ensures failed { IfErr result (λ halt. IfOutsideFailed halt (Rose (F.faults folder.old) (F.faults folder.new))
+        (Rose (O.faults outbox.old) (O.faults outbox.new)) (Rose (C.faults console.old) (C.faults console.new))) }
+    ensures continues { Continues (C.written console.old) (C.written console.new) }
+    ensures told { F.files folder.new ≡ F.files folder.old }
+    ensures folder_count { F.faults folder.old ≤ F.faults folder.new }
+    ensures outbox_count { O.faults outbox.old ≤ O.faults outbox.new }
+    ensures console_count { C.faults console.old ≤ C.faults console.new }
+{
+    let typed = match read_script(alloc, name, shelf, folder) {
+        Ok(typed) => typed,
+        Err(halt) => return Err(halt),
+    };
+    let ran = match step(alloc, &typed, decisions, shelf, folder) {
+        Ok(ran) => ran,
+        Err(halt) => return Err(halt),
+    };
+    publish(&ran, outbox, console)
 }
 
 // Puts the line that tells why a call did not come to its end, and answers the status.

@@ -6,8 +6,10 @@ mod check;
 mod ends;
 pub mod laws;
 mod lines;
+mod publish;
 mod run;
 mod script;
+mod step;
 #[cfg(test)]
 mod tests;
 mod thin;

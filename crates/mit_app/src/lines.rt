@@ -1,7 +1,7 @@
 //! The lines of the console.
 ghost use Rattle.std.specs.Prelude.{◌≡◌, IfOk, string_bytes};
 ghost use Rattle.mit_app.specs.Ends.{halt_line};
-ghost use Rattle.mit_app.specs.Lines.{accepted_line, code_words, kind_words, outside_line, refusal_line, report_line};
+ghost use Rattle.mit_app.specs.Lines.{accepted_line, code_words, kind_words, outside_line, refusal_line, report_line, step_line};
 ghost use Rattle.mit_app.specs.declared.ends.Refusal.TheVariants as refusal;
 
 use crate::ends::{Halt, Outside, Refusal};
@@ -19,6 +19,13 @@ pub(crate) fn report(
     ensures { IfOk result (λ text. string_bytes text ≡ report_line files blocks actions) }
 {
     format!(in alloc; "files {files}, blocks {blocks}, actions {actions}\n")
+}
+
+/// The line that tells how a script ended that was run step by step.
+pub(crate) fn step_report(alloc: Global, files: u64, decisions: u32) -> Result<String, AllocError>
+    ensures { IfOk result (λ text. string_bytes text ≡ step_line files decisions) }
+{
+    format!(in alloc; "files {files}, decisions {decisions}\n")
 }
 
 /// The line that tells that a script is accepted.

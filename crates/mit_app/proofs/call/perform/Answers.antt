@@ -10,3 +10,8 @@ returns-in-Check-clause-ends g c = λ files agrees.
     (g.C.Console.written c.show.new.console) c.show.result) (sym c.in-Check.is)
     (showing_ends g.O.Outbox.held c.in-Check.print c.args.name.now files c.args.outbox.now (g.C.Console.written c.args.console.now)
     (g.C.Console.written c.show.new.console) c.show.result (c.show.ensures.shown files agrees))
+
+pub returns-in-Step-clause-ends : goal.returns-in-Step-clause-ends
+returns-in-Step-clause-ends g c = λ files agrees.
+    subst (λ (t : Task). Ends g.O.Outbox.held t c.args.name.now files c.args.outbox.now c.step_and_publish.new.outbox (g.C.Console.written c.args.console.now)
+    (g.C.Console.written c.step_and_publish.new.console) c.step_and_publish.result) (sym c.in-Step.is) (c.step_and_publish.ensures.ends files agrees)
