@@ -1,0 +1,17 @@
+pub mod Numbers
+pub mod Lists
+pub mod Texts
+pub mod Worked
+pub mod Choices
+pub mod SameParts
+pub mod Histories
+pub mod Upward
+pub mod Stops
+pub mod Collected
+pub mod Shares
+pub mod Sums
+pub mod Writes
+pub mod Growing
+pub mod Computed
+pub mod Branch
+pub mod Loop

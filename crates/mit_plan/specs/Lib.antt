@@ -1,0 +1,12 @@
+pub mod Plans
+pub mod Printed
+pub mod Bound
+pub mod Paths
+pub mod Types
+pub mod Valid
+pub mod Indexed
+pub mod Chosen
+pub mod Held
+pub mod Meant
+pub mod Explained
+pub mod Sums
