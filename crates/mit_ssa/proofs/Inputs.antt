@@ -1,0 +1,40 @@
+-- The inputs of an operator, and the definitions of phis, one after another.
+use Rattle.std.proofs.Common.{◌≡◌, ◌∙◌, ◌<◌, ◌≤◌, ◌+◌, ℕ, suc, List, [], ◌∷◌, ◌++◌, length, get_or, drop, ap, sym, arith, append_assoc}
+use Rattle.std.proofs.lemmas.List.{append-nil, drop_all, drop_more}
+use Rattle.mit_ops.specs.Routes.{route_to}
+use Rattle.mit_ops.specs.declared.kinds.OpSpec.{OpSpec}
+use Rattle.mit_ops.specs.declared.types.VarType.{VarType}
+use Rattle.mit_ssa.specs.Woven.{Defined, defining, definition_of, inputs_from, width_of, with_phis}
+use Rattle.mit_ssa.specs.declared.block.Source.{Source}
+
+pub inputs_more : (types : List VarType) (defined : Defined) (operator : OpSpec) (args : List ℕ) (input : ℕ) (so_far new whole : List Source) (source : Source)
+    → input < length args → source.from ≡ definition_of defined (get_or args input 0) → source.route ≡ route_to operator input (width_of types (get_or args input 0))
+    → new ≡ so_far ++ source ∷ [] → so_far ++ inputs_from types defined operator input (drop input args) ≡ whole
+    → new ++ inputs_from types defined operator (input + 1) (drop (input + 1) args) ≡ whole
+unfolding inputs_from
+inputs_more types defined operator args input so_far new whole source within from route pushed given =
+    let next : input + 1 ≡ suc input = omega arith in
+    ap (λ list. list ++ inputs_from types defined operator (input + 1) (drop (input + 1) args)) pushed
+    ∙ (append_assoc so_far (source ∷ []) (inputs_from types defined operator (input + 1) (drop (input + 1) args))
+    ∙ ((λ i. so_far ++ record { from = from i; route = route i } ∷ inputs_from types defined operator (next i) (drop (input + 1) args))
+    ∙ (ap (λ list. so_far ++ inputs_from types defined operator input list) (sym (drop_more args input 0 within)) ∙ given)))
+
+pub inputs_all : (types : List VarType) (defined : Defined) (operator : OpSpec) (args : List ℕ) (input : ℕ) (so_far whole : List Source)
+    → length args ≤ input → so_far ++ inputs_from types defined operator input (drop input args) ≡ whole → so_far ≡ whole
+unfolding inputs_from
+inputs_all types defined operator args input so_far whole past given =
+    sym (append-nil so_far) ∙ (ap (λ list. so_far ++ inputs_from types defined operator input list) (sym (drop_all input args past)) ∙ given)
+
+pub phis_more : (now new whole : Defined) (number index : ℕ) (variables : List ℕ) → index < length variables
+    → new ≡ defining now (get_or variables index 0) number → with_phis now number (drop index variables) ≡ whole
+    → with_phis new (number + 1) (drop (index + 1) variables) ≡ whole
+unfolding with_phis
+phis_more now new whole number index variables within is given =
+    let next : number + 1 ≡ suc number = omega arith in
+    (λ i. with_phis (is i) (next i) (drop (index + 1) variables))
+    ∙ (ap (λ list. with_phis now number list) (sym (drop_more variables index 0 within)) ∙ given)
+
+pub phis_all : (now whole : Defined) (number index : ℕ) (variables : List ℕ) → length variables ≤ index
+    → with_phis now number (drop index variables) ≡ whole → now ≡ whole
+unfolding with_phis
+phis_all now whole number index variables past given = ap (λ list. with_phis now number list) (sym (drop_all index variables past)) ∙ given

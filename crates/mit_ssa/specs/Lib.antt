@@ -1,0 +1,4 @@
+pub mod Woven
+pub mod PlanFor
+pub mod Weaving
+pub mod Numbering

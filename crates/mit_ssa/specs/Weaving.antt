@@ -1,0 +1,144 @@
+-- Devices of the proofs: nobody has to believe them. What stands for the functions and places of the definitions while a script is woven.
+use Rattle.std.specs.Prelude.{◌≡◌, ◌<◌, ◌≤◌, ⊤, ℕ, ◌+◌, ◌*◌, List, [], ◌∷◌, ◌++◌, length, Bool, false, ◌&&◌, Option, None, is_some, unwrap_or, slice_get}
+use Rattle.std.specs.List.{filter, range_with_len}
+use Rattle.mit_ops.specs.declared.leave.Leave.{Leave}
+use Rattle.mit_ops.specs.declared.leave.Leave.TheVariants.{Jump, Branch}
+use Rattle.mit_ops.specs.declared.kinds.OpSpec.{OpSpec}
+use Rattle.mit_ops.specs.declared.types.VarType.{VarType}
+use Rattle.mit_plan.specs.declared.plan.TheConstants.{MAX_OPS}
+use Rattle.mit_ssa.specs.Woven.{Defined, Place, Stretch, Weave, Woven, adds, all_of, counts, join_phis, left, on_both, operator_of, phis_of, preceded, with_phis, woven_all}
+use Rattle.mit_ssa.specs.declared.block.Block.{Block}
+use Rattle.mit_ssa.specs.declared.build.Builder.{Builder}
+use Rattle.mit_ssa.specs.declared.stop.PlanStop.{PlanStop}
+use Rattle.mit_ssa.specs.declared.stop.PlanStop.TheVariants.{TooLarge, NoMemory}
+
+-- lists that stand for functions of variables
+abbrev pub looked : List (Option ℕ) → Defined
+looked defined variable = unwrap_or (slice_get defined variable) None
+
+abbrev pub marked : List Bool → ℕ → Bool
+marked marks variable = unwrap_or (slice_get marks variable) false
+
+-- where a builder is
+abbrev pub place_of : Builder → Place
+place_of builder = record {
+  block = builder.block;
+  operator = builder.operator;
+  statement = builder.statement;
+  defined = looked builder.defined.items;
+}
+
+-- the blocks of a builder, where the current one goes on so
+abbrev pub built : Builder → Stretch → List Block
+built builder after =
+    builder.blocks.items
+    ++ record { operators = builder.operators.items ++ after.first.operators; leave = after.first.leave } ∷ after.later
+
+-- nothing is built yet, at this place
+pub record IsAt (place : Place) (builder : Builder) : Type 0 where
+  pub blocks : builder.blocks.items ≡ []
+  pub operators : builder.operators.items ≡ []
+  pub there : place_of builder ≡ place
+
+-- its numbers are small
+pub record IsSmall (builder : Builder) : Type 0 where
+  pub operators : builder.operator ≤ MAX_OPS
+  pub statements : builder.statement ≤ builder.operator + 1
+  pub blocks : builder.block ≤ 3 * builder.operator
+
+-- so many statements, which add so many blocks, are woven so after the old ones
+pub record Weaves (count added : ℕ) (woven : Woven) (old new : Builder) : Type 0 where
+  pub block : new.block ≡ old.block + added
+  pub operator : new.operator ≡ woven.operator
+  pub statement : new.statement ≡ old.statement + count
+  pub defined : looked new.defined.items ≡ woven.defined
+  pub onto : (after : Stretch) → built new after ≡ built old (woven.onto after)
+  pub small : IsSmall new
+
+-- a stop has this cause, or memory ran out
+abbrev pub IfLarge : Type 0 → PlanStop → Type 0
+IfLarge large TooLarge = large
+IfLarge large NoMemory = ⊤
+
+-- there are too many operators, or memory ran out
+abbrev pub Stops : ℕ → PlanStop → Type 0
+Stops operators = IfLarge (MAX_OPS < operators)
+
+-- the phis of a join and of a loop, by which variables are marked
+abbrev pub joined_by : ℕ → List Bool → Defined → Defined → List ℕ
+joined_by variables marks one other =
+    filter (λ variable. marked marks variable && is_some (one variable) && is_some (other variable)) (range_with_len 0 variables)
+
+abbrev pub turned_by : ℕ → List Bool → Defined → List ℕ
+turned_by variables marks defined = filter (λ variable. marked marks variable && is_some (defined variable)) (range_with_len 0 variables)
+
+-- an `if` after its condition
+abbrev pub split : List VarType → List Weave → List Weave → Place → Woven
+split types on_true on_false place =
+    let other = place.block + 2 + adds on_true in
+    let join = other + 1 + adds on_false in
+    let one = woven_all on_true (record { block = place.block + 1; operator = place.operator; statement = place.statement; defined = place.defined }) in
+    let two = woven_all on_false
+    (record { block = other; operator = one.operator; statement = place.statement + counts on_true; defined = place.defined }) in
+    let phis = join_phis (length types) on_true on_false one.defined two.defined in
+    record {
+      operator = two.operator + length phis;
+      defined = with_phis (on_both one.defined two.defined) two.operator phis;
+      onto = λ stretch. record {
+        first = record { operators = []; leave = Branch (place.block + 1) other };
+        later = all_of (one.onto (left (Jump join))) ++ all_of (two.onto (left (Jump join)))
+            ++ all_of (preceded (phis_of one.defined two.defined phis) stretch);
+      };
+    }
+
+-- all blocks of a builder, where the current one is left so
+abbrev pub closed : Leave → Builder → List Block
+closed leave builder = builder.blocks.items ++ record { operators = builder.operators.items; leave = leave } ∷ []
+
+-- where the true branch of an `if` begins, after its condition
+abbrev pub inside_at : Place → Place
+inside_at place = record { block = place.block + 1; operator = place.operator; statement = place.statement; defined = place.defined }
+
+-- statements that are woven from this place on
+pub record IsBranch (weaves : List Weave) (begin : Place) (last : Builder) : Type 0 where
+  pub block : last.block ≡ begin.block + adds weaves
+  pub operator : last.operator ≡ (woven_all weaves begin).operator
+  pub statement : last.statement ≡ begin.statement + counts weaves
+  pub defined : looked last.defined.items ≡ (woven_all weaves begin).defined
+  pub ends : (leave : Leave) → closed leave last ≡ all_of ((woven_all weaves begin).onto (left leave))
+  pub small : IsSmall last
+
+-- two branches are joined, after the block with the condition
+pub record Joined (phis : List ℕ) (before one two new : Builder) : Type 0 where
+  pub block : new.block ≡ two.block + 1
+  pub operator : new.operator ≡ two.operator + length phis
+  pub few : new.operator ≤ MAX_OPS
+  pub statement : new.statement ≡ two.statement
+  pub defined : looked new.defined.items ≡ with_phis (on_both (looked one.defined.items) (looked two.defined.items)) two.operator phis
+  pub operators : new.operators.items ≡ phis_of (looked one.defined.items) (looked two.defined.items) phis
+  pub blocks : new.blocks.items
+      ≡ closed (Branch (before.block + 1) (one.block + 1)) before ++ (closed (Jump (two.block + 1)) one ++ closed (Jump (two.block + 1)) two)
+
+-- the place in a loop's body
+abbrev pub in_loop : List ℕ → Place → Place
+in_loop phis place = record {
+  block = place.block + 2;
+  operator = place.operator + length phis + 1;
+  statement = place.statement + 1;
+  defined = with_phis place.defined place.operator phis;
+}
+
+-- a loop is closed after its body
+pub record Turned (types : List VarType) (operator : OpSpec) (args phis : List ℕ) (old turn new : Builder) : Type 0 where
+  pub block : new.block ≡ turn.block + 1
+  pub number : new.operator ≡ turn.operator
+  pub statement : new.statement ≡ turn.statement
+  pub defined : looked new.defined.items ≡ with_phis (looked old.defined.items) old.operator phis
+  pub operators : new.operators.items ≡ []
+  pub blocks : new.blocks.items
+      ≡ closed (Jump (old.block + 1)) old
+      ++ (record {
+        operators = phis_of (looked old.defined.items) (looked turn.defined.items) phis
+            ++ operator_of types (with_phis (looked old.defined.items) old.operator phis) old.statement operator args ∷ [];
+        leave = Branch (old.block + 2) (turn.block + 1);
+      } ∷ closed (Jump (old.block + 1)) turn)
