@@ -4,12 +4,13 @@ use Rattle.std.specs.Prelude.{if◌then◌else◌}
 use Rattle.mit_rows.specs.Bags.{BagOf, RowOf}
 use Rattle.mit_world.specs.Files.{FileMap}
 use Rattle.mit_ops.specs.Answers.{BagOrFault}
+use Rattle.mit_ops.specs.Endings.{Ending, truth_in}
 use Rattle.mit_ops.specs.Operators.{name_written, whole}
 use Rattle.mit_ops.specs.declared.kinds.OpSpec.{OpSpec}
 use Rattle.mit_ops.specs.declared.kinds.OpSpec.TheVariants as op
 use Rattle.mit_ops.specs.declared.leave.Leave.{Leave}
 use Rattle.mit_ops.specs.declared.leave.Leave.TheVariants.{Jump, Branch}
-use Rattle.mit_script.specs.Execution.{Ended, Ending, State, and_then, decides, goes_on, taken, truth_in, turns}
+use Rattle.mit_script.specs.Execution.{Ended, State, and_then, decides, goes_on, taken, turns}
 use Rattle.mit_script.specs.Execution.{with_bag as then_with}
 use Rattle.mit_script.specs.Trees.{is_scalar}
 use Rattle.mit_cfg.specs.Blocks.{Cut, Stretch, adds, all_of, branched, condition_alone, counts, in_turn, left, looped, step_of}

@@ -3,7 +3,7 @@ use Rattle.std.proofs.Common.{◌≡◌, ◌∙◌, ◌≤◌, ◌+◌, ◌*◌,
 use Rattle.std.proofs.Math.Nat.{mul-le-mul_right}
 use Rattle.std.proofs.Math.Seq.{get_or-append_seam}
 use Rattle.mit_world.specs.Files.{FileMap}
-use Rattle.mit_script.specs.Execution.{Ending}
+use Rattle.mit_ops.specs.Endings.{Ending}
 use Rattle.mit_cfg.specs.Walk.{Place, block_at, next_place, over, walk_from}
 use Rattle.mit_cfg.specs.declared.block.Block.{Block}
 

@@ -5,9 +5,10 @@ use Rattle.std.proofs.lemmas.List.{drop_at, take_at, append-nil}
 use Rattle.std.proofs.lemmas.List.Elements.{All-drop, All-head, All-tail, All-take, All-weaker}
 use Rattle.std.proofs.lemmas.List.Sums.{sum_by-cons}
 use Rattle.mit_world.specs.Files.{FileMap}
+use Rattle.mit_ops.specs.Endings.{finished}
 use Rattle.mit_ops.specs.declared.kinds.OpSpec.{OpSpec}
 use Rattle.mit_ops.specs.declared.leave.Leave.TheVariants.{End}
-use Rattle.mit_script.specs.Execution.{Doing, Ended, State, and_then, at_fault, decides, ending_of, exec, exec_of, exec_step, finished, goes_on, start}
+use Rattle.mit_script.specs.Execution.{Doing, Ended, State, and_then, at_fault, decides, ending_of, exec, exec_of, exec_step, goes_on, start}
 use Rattle.mit_script.specs.Execution.{counts as counts_done, in_turn as done_in_turn}
 use Rattle.mit_script.specs.Trees.{Head, IsFormed, IsFormedHead, assigns, head_step, heads_in, is_scalar, writes}
 use Rattle.mit_script.specs.Trees.{decides as decides_head}

@@ -3,9 +3,10 @@ use Rattle.std.proofs.Common.{◌≡◌, ◌∙◌, ◌≤◌, ◌+◌, ℕ, Lis
 use Rattle.mit_rows.specs.Bags.{BagOf}
 use Rattle.mit_world.specs.Files.{FileMap}
 use Rattle.mit_ops.specs.Answers.{BagOrFault}
+use Rattle.mit_ops.specs.Endings.{Ending, stopped}
 use Rattle.mit_ops.specs.Operators.{name_written, whole}
 use Rattle.mit_ops.specs.declared.kinds.OpSpec.{OpSpec}
-use Rattle.mit_script.specs.Execution.{Ended, Ending, State, and_then, assigned, at_fault, evaluated, goes_on, stopped, written}
+use Rattle.mit_script.specs.Execution.{Ended, State, and_then, assigned, at_fault, evaluated, goes_on, written}
 use Rattle.mit_script.specs.Execution.{with_bag as then_with}
 use Rattle.mit_cfg.specs.Blocks.{Stretch, preceded, step_of}
 use Rattle.mit_cfg.specs.Walk.{after_step, does, kept, leaves, through, with_bag}

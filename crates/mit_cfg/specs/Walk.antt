@@ -3,12 +3,13 @@ use Rattle.std.specs.Prelude.{ℕ, zero, suc, ◌+◌, List, [], ◌∷◌, ◌+
 use Rattle.mit_rows.specs.Bags.{BagOf}
 use Rattle.mit_world.specs.Files.{FileMap}
 use Rattle.mit_ops.specs.Answers.{BagOrFault}
+use Rattle.mit_ops.specs.Endings.{Ending, finished, stopped, truth_in}
 use Rattle.mit_ops.specs.Operators.{name_written, whole}
 use Rattle.mit_ops.specs.declared.faults.FaultKind.TheVariants.{DecisionLimit}
 use Rattle.mit_ops.specs.declared.faults.ScriptFault.{ScriptFault}
 use Rattle.mit_ops.specs.declared.leave.Leave.{Leave}
 use Rattle.mit_ops.specs.declared.leave.Leave.TheVariants.{Jump, Branch, End}
-use Rattle.mit_script.specs.Execution.{Ending, State, finished, put, start, stopped, truth_in}
+use Rattle.mit_script.specs.Execution.{State, put, start}
 use Rattle.mit_cfg.specs.declared.block.Block.{Block}
 use Rattle.mit_cfg.specs.declared.block.Step.{Step}
 

@@ -1,7 +1,8 @@
 //! Laws of blocks. Each is the contract of a function that does nothing.
 ghost use Rattle.std.specs.Prelude.{◌≡◌, ℕ, ◌+◌, ◌*◌, List, length};
 ghost use Rattle.mit_world.specs.Files.{FileMap};
-ghost use Rattle.mit_script.specs.Execution.{Ending, exec};
+ghost use Rattle.mit_ops.specs.Endings.{Ending};
+ghost use Rattle.mit_script.specs.Execution.{exec};
 ghost use Rattle.mit_script.specs.Trees.{IsFormed};
 ghost use Rattle.mit_script.specs.declared.tree.Script.{Script};
 ghost use Rattle.mit_cfg.specs.Blocks.{blocks_of};

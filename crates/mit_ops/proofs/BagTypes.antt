@@ -1,5 +1,7 @@
 -- What an operator gives is again the type of a bag.
-use Rattle.std.proofs.Common.{◌≡◌, ℕ, ◌+◌, ◌≤◌, List, [], ◌∷◌, ◌++◌, length, length-append, Bool, true, false, Option, Some, None, option_map, if◌then◌else◌, slice_get, refl, subst, arith}
+use Rattle.std.proofs.Common.{◌≡◌, ℕ, ◌+◌, ◌≤◌, List, [], ◌∷◌, ◌++◌, length, length-append, Bool, true, false, Option, Some, None, option_map, Ok, Err, if◌then◌else◌, slice_get, ◌∙◌, ap, refl, rules, subst, tests, arith}
+use Rattle.std.specs.Option.{ok_or}
+use Rattle.std.specs.Prelude.{nat_lt}
 use Rattle.mit_rows.specs.declared.row.TheConstants.{MAX_COLUMNS}
 use Rattle.mit_rows.specs.declared.value.ColType.{ColType}
 use Rattle.mit_rows.specs.declared.value.ColType.TheVariants.{Int, Text, Bool as Truth}
@@ -7,7 +9,8 @@ use Rattle.mit_expr.specs.Types.{type_in, where_is}
 use Rattle.mit_ops.specs.declared.kinds.OpSpec.{OpSpec}
 use Rattle.mit_ops.specs.declared.kinds.OpSpec.TheVariants as op
 use Rattle.mit_ops.specs.declared.types.VarType.{VarType}
-use Rattle.mit_ops.specs.Results.{AreBags, IsBagType, agg_type, and_types, bag, first, flat_type, is_a, keys_fit, only_column, result, same_types, scalar, second, types_of, width, with_column}
+use Rattle.mit_ops.specs.declared.types.TheConstants.{MAX_CAPTURES}
+use Rattle.mit_ops.specs.Results.{AreBags, IsBagType, is_wide, too_large, too_many_columns, typed_as, wrong_type, agg_type, and_types, bag, first, flat_type, is_a, keys_fit, only_column, result, same_types, scalar, second, types_of, width, with_column}
 
 bag_fits : (columns : List ColType) → length columns ≤ MAX_COLUMNS → IsBagType (bag columns)
 bag_fits columns h = (h, λ e. cc)
@@ -89,3 +92,18 @@ result_fits (op.MakeRow exprs) bags captures type given h e =
 result_fits (op.Empty types) bags captures type given h e = some_fits types type h e
 result_fits (op.Write name) bags captures type given h e = if_fits (is_a Text (type_in [] captures name)) [] type (omega arith) e
 result_fits op.Copy bags captures type given h e = argument_fits bags type given e
+
+-- and so is the type that is found
+pub typed_fits : (spec : OpSpec) (bags : List VarType) (captures : List ColType) (type : VarType) → AreBags bags → typed_as spec bags captures ≡ Ok type → IsBagType type
+typed_fits spec bags captures type given is =
+    by_tests (nat_lt MAX_CAPTURES (length captures)) (is_wide spec bags) refl (result spec bags captures) refl is
+  where
+    by_tests : (large wide : Bool) → is_wide spec bags ≡ wide → (found : Option VarType) → result spec bags captures ≡ found
+        → (if large then Err too_large else if wide then Err too_many_columns else ok_or found wrong_type) ≡ Ok type → IsBagType type
+    by_tests true wide narrow found same is = cc
+    by_tests false true narrow found same is = cc
+    by_tests false false narrow None same is = cc
+    by_tests false false narrow (Some other) same is =
+        let few : width spec bags ≤ MAX_COLUMNS = search (rules, tests) in
+        let it : other ≡ type = cc in
+        result_fits spec bags captures type given few (same ∙ ap Some it)

@@ -1,6 +1,7 @@
 pub mod Kinds
 pub mod Results
 pub mod Answers
+pub mod Endings
 pub mod Keys
 pub mod Routes
 pub mod Forms

@@ -17,7 +17,7 @@ ghost use Rattle.mit_ops.specs.Keys.{key_of};
 ghost use Rattle.mit_ops.specs.Kinds.{bag_inputs_of, kind_of};
 ghost use Rattle.mit_ops.specs.Operators.{bags_in, captures_among, name_written, part_apply, whole};
 ghost use Rattle.mit_ops.specs.Parts.{CutInto, Fits, FitsAs, HaveColumns, SameBags, StandsIn, routed_lists, sum_of_parts};
-ghost use Rattle.mit_ops.specs.Results.{flat_type, types_of};
+ghost use Rattle.mit_ops.specs.Results.{AreBags, IsBagType, flat_type, typed_as, types_of};
 ghost use Rattle.mit_ops.specs.Routes.{goes, senders_of, share, target_of, targets_of};
 ghost use Rattle.mit_ops.specs.Totals.{aggregate};
 ghost use Rattle.mit_ops.specs.declared.kinds.Agg.{Agg};
@@ -89,11 +89,14 @@ pub fn answers_add_up<X>()
     bags_are_sorted_lists();
 }
 
-/// What an operator gives has its result's columns, and a scalar's one row stands in partition 0.
+/// What an operator gives has the type of a bag, its result's columns, and a scalar's one row stands in partition 0.
 ///
 /// A write, which is kind 14, gives its bag, though its result has no columns. What holds of a part
 /// holds of the whole too. Where the column is one of truth values, the one row is such a value.
 pub fn typing_law()
+    ensures given { (spec : OpSpec) (bags : List VarType) (captures : List ColType)
+        (result : VarType) →
+        AreBags bags → typed_as spec bags captures ≡ Ok result → IsBagType result }
     ensures columns { (spec : OpSpec) (bags : List VarType) (captures : List ColType)
         (result : VarType) (part parts : ℕ) (inputs : List (List RowOf)) (files : FileMap)
         (rows : List RowOf) →

@@ -1,10 +1,10 @@
 -- The step-by-step interpreter. This is what a script means.
-use Rattle.std.specs.Prelude.{ℕ, zero, suc, ◌+◌, List, [], ◌∷◌, ◌++◌, map, sum, Bool, false, ◌==◌, if◌then◌else◌, Option, Some, None, Ok, Err}
+use Rattle.std.specs.Prelude.{ℕ, zero, suc, ◌+◌, List, [], ◌∷◌, ◌++◌, map, sum, Bool, ◌==◌, if◌then◌else◌, Option, Some, None, Ok, Err}
 use Rattle.mit_rows.specs.Bags.{BagOf}
-use Rattle.mit_rows.specs.declared.value.Value.TheVariants.{Bool as Truth}
 use Rattle.mit_world.specs.Files.{FileMap}
 use Rattle.mit_shelf.specs.Printed.{Write}
 use Rattle.mit_ops.specs.Answers.{BagOrFault}
+use Rattle.mit_ops.specs.Endings.{Ending, finished, stopped, truth_in}
 use Rattle.mit_ops.specs.Operators.{name_written, whole}
 use Rattle.mit_ops.specs.declared.faults.FaultKind.{FaultKind}
 use Rattle.mit_ops.specs.declared.faults.FaultKind.TheVariants.{DecisionLimit}
@@ -63,11 +63,6 @@ abbrev pub written : State → Option (List ℕ) → BagOf → Ended
 written state None bag = goes_on state
 written state (Some name) bag = goes_on (record state { writes = state.writes ++ record { name = name; bag = bag } ∷ [] })
 
--- the truth value of a condition's one row
-abbrev pub truth_in : BagOf → Bool
-truth_in ((Truth truth ∷ []) ∷ []) = truth
-truth_in _ = false
-
 -- one decision is taken, where one is left
 abbrev pub taken : ℕ → State → ℕ → (State → Ended) → Ended
 taken number state zero next = faulted number state DecisionLimit
@@ -123,11 +118,6 @@ exec_of files = fold-Stmt Doing (exec_step files)
 -- at the start nothing is assigned, written or decided, and so many decisions may be taken
 abbrev pub start : ℕ → State
 start decisions = record { store = λ variable. []; writes = []; used = 0; left = decisions }
-
--- how a script ends: with its writes in order and the number of its decisions, or with its first fault
-pub data Ending : Type 0 where
-  finished : List Write → ℕ → Ending
-  stopped : ScriptFault → Ending
 
 abbrev pub ending_of : Ended → Ending
 ending_of (goes_on state) = finished state.writes state.used

@@ -1,6 +1,10 @@
+use Rattle.mit_ops.proofs.BagTypes.{typed_fits}
 use Rattle.mit_ops.proofs.TypedParts.{part_columns, whole_columns}
 use Rattle.mit_ops.proofs.TypedScalars.{one_truth, part_scalar, whole_scalar}
 use Rattle.mit_ops.proofs.laws.typing_law.Goals as goal
+
+pub returns-clause-given : goal.returns-clause-given
+returns-clause-given c = typed_fits
 
 pub returns-clause-columns : goal.returns-clause-columns
 returns-clause-columns c = part_columns c.bags_are_rows_in_order.ensures.rows c.typing_law.ensures
