@@ -1,12 +1,14 @@
-pub mod Distincts
+pub mod Firsts
 pub mod Groups
 pub mod Joins
 pub mod Keys
+pub mod Orders
 pub mod Reductions
 pub mod Sums
 pub mod Wholes
 pub mod Arguments
 pub mod Asking
+pub mod Copies
 pub mod Endings
 pub mod Growing
 pub mod Inputs
@@ -16,5 +18,4 @@ pub mod Readiness
 pub mod Runs
 pub mod Steps
 pub mod Stores
-pub mod BagTypes
 pub mod Names

@@ -45,7 +45,7 @@ module _ (spec : OpSpec) (bags : List BagOf) (captures : List Value) (count : le
       ∙ ap (λ n. whole_answer (form_of spec files captures) (take n (inputs_of bags captures))) (sym count)
       ∙ ap (whole_answer (form_of spec files captures)) (take_all bags (map (λ value. (value ∷ []) ∷ []) captures))
 
-gives_same : (answer other : BagOrFault) (result : Result BagOf WholeStop) → answer ≡ other → GivesWhole other result → GivesWhole answer result
+pub gives_same : (answer other : BagOrFault) (result : Result BagOf WholeStop) → answer ≡ other → GivesWhole other result → GivesWhole answer result
 gives_same answer other result e = subst (λ (a : BagOrFault). GivesWhole a result) (sym e)
 
 -- what an operator gives is what its kind gives

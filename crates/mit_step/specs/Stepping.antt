@@ -6,8 +6,8 @@ use Rattle.mit_shelf.specs.Printed.{published}
 use Rattle.mit_shelf.specs.declared.stop.Stop.{Stop}
 use Rattle.mit_shelf.specs.declared.stop.Stop.TheVariants as stop
 use Rattle.mit_ops.specs.Answers.{BagOrFault}
+use Rattle.mit_ops.specs.Endings.{Ending, finished, stopped}
 use Rattle.mit_ops.specs.declared.faults.ScriptFault.{ScriptFault}
-use Rattle.mit_script.specs.Execution.{Ending, finished, stopped}
 use Rattle.mit_step.specs.declared.step.Stepped.{Stepped}
 use Rattle.mit_step.specs.declared.whole.WholeStop.{WholeStop}
 use Rattle.mit_step.specs.declared.whole.WholeStop.TheVariants as whole_stop

@@ -17,12 +17,14 @@ ghost use Rattle.mit_script.specs.Trees.{is_write};
 ghost use Rattle.mit_step.specs.Running.{Asks, GivesBag, NamedBy, StopsAs};
 ghost use Rattle.mit_step.specs.Typing.{Argued, IsMade, IsValue, bag_in, inputs_in};
 
+use crate::loose::Loose;
 use crate::store::{Store, shared};
-use crate::whole::{WholeStop, whole_bag};
+use crate::whole::{WholeStop, whole_loose};
 use mit_expr::{EvalFault, Expr, eval};
 use mit_ops::laws::{files_law, fitting_law, typing_law};
 use mit_ops::{FaultKind, OpSpec, OpStop};
-use mit_rows::{Bag, ColType, MAX_COLUMNS, Row, Text, Value};
+use mit_rows::laws::bags_are_sorted_lists;
+use mit_rows::{ColType, MAX_COLUMNS, Row, Text, Value};
 use mit_shelf::laws::shelves_agree_with_their_files;
 use mit_shelf::{FetchFault, RowsRefused, Shelf, Stop, legal_name, parse_rows};
 use mit_world::Folder;
@@ -37,7 +39,7 @@ pub(crate) fn evaluate<F: Folder>(
     store: &Store,
     shelf: &mut Shelf,
     folder: &mut F,
-) -> Result<Rc<Bag>, Stop<FaultKind>>
+) -> Result<Rc<Loose>, Stop<FaultKind>>
     requires other { is_write op.now ≡ false }
     requires argued { Argued op.now args.now store.now }
     ensures bag { (files : FileMap) → Agrees shelf.new files →
@@ -60,7 +62,7 @@ fn of_kind<F: Folder>(
     store: &Store,
     shelf: &mut Shelf,
     folder: &mut F,
-) -> Result<Rc<Bag>, Stop<FaultKind>>
+) -> Result<Rc<Loose>, Stop<FaultKind>>
     requires other { is_write op.now ≡ false }
     requires argued { Argued op.now args.now store.now }
     ensures bag { (files : FileMap) → Agrees shelf.new files →
@@ -71,8 +73,31 @@ fn of_kind<F: Folder>(
 {
     match op {
         OpSpec::Read { .. } => read(alloc, op, args, store, shelf, folder),
+        OpSpec::Copy => same_bag(op, args, store),
         _ => over_bags(alloc, op, args, store),
     }
+}
+
+/// The bag of a copy, which is shared.
+fn same_bag(op: &OpSpec, args: &[u32], store: &Store) -> Result<Rc<Loose>, Stop<FaultKind>>
+    requires copy { kind_of op.now ≡ 15 }
+    requires argued { Argued op.now args.now store.now }
+    ensures bag { (files : FileMap) →
+        MatchResult result (λ bag. whole op.now (inputs_in store.now args.now) files ≡ Ok bag.value)
+        (StopsAs (whole op.now (inputs_in store.now args.now) files)) }
+    ensures own { IfErr result (λ stop. stop ≢ Stop.Folder) }
+{
+    bags_are_sorted_lists();
+    let OpSpec::Copy = op else {
+        unreachable!();
+    };
+    let [variable, ..] = args else {
+        unreachable!();
+    };
+    let bag = store.get(*variable);
+    // a read, which tells the proof that the bag is in order
+    let _rows = bag.rows();
+    Ok(bag.clone()?)
 }
 
 /// The bag of a read: the rows of the file of its name.
@@ -83,7 +108,7 @@ fn read<F: Folder>(
     store: &Store,
     shelf: &mut Shelf,
     folder: &mut F,
-) -> Result<Rc<Bag>, Stop<FaultKind>>
+) -> Result<Rc<Loose>, Stop<FaultKind>>
     requires read { kind_of op.now ≡ 1 }
     requires argued { Argued op.now args.now store.now }
     ensures bag { (files : FileMap) → Agrees shelf.new files →
@@ -153,7 +178,7 @@ fn file_bag<F: Folder>(
     types: &[ColType],
     shelf: &mut Shelf,
     folder: &mut F,
-) -> Result<Bag, Stop<FaultKind>>
+) -> Result<Loose, Stop<FaultKind>>
     requires few { length types.now ≤ MAX_COLUMNS }
     ensures bag { (files : FileMap) → Agrees shelf.new files →
         GivesBag (settled (read_rows files types.now (gives (Value.Text name.now)))) result }
@@ -170,13 +195,13 @@ fn file_bag<F: Folder>(
 }
 
 /// The bag of the rows of a file's bytes.
-fn bag_of_bytes(alloc: Global, bytes: &[u8], types: &[ColType]) -> Result<Bag, Stop<FaultKind>>
+fn bag_of_bytes(alloc: Global, bytes: &[u8], types: &[ColType]) -> Result<Loose, Stop<FaultKind>>
     requires { length types.now ≤ MAX_COLUMNS }
     ensures bag { GivesBag (settled (file_rows types.now (Some bytes.now))) result }
     ensures own { IfErr result (λ stop. stop ≢ Stop.Folder) }
 {
     match parse_rows(alloc, bytes, types) {
-        Ok(rows) => Ok(Bag::from_rows(rows)?),
+        Ok(rows) => Ok(Loose::from_rows(rows)),
         Err(RowsRefused::BadRow(number)) => Err(Stop::Fault(FaultKind::BadRow(number))),
         Err(RowsRefused::NoMemory) => Err(Stop::NoMemory),
     }
@@ -188,7 +213,7 @@ fn over_bags(
     op: &OpSpec,
     args: &[u32],
     store: &Store,
-) -> Result<Rc<Bag>, Stop<FaultKind>>
+) -> Result<Rc<Loose>, Stop<FaultKind>>
     requires kind { (kind_of op.now ≢ 1) × (kind_of op.now ≢ 14) }
     requires argued { Argued op.now args.now store.now }
     ensures bag { (files : FileMap) →
@@ -200,7 +225,7 @@ fn over_bags(
     let (first, captured) = args.split_at(usize::from(op.bag_inputs()));
     let bags = bags_of(alloc, first, store)?;
     let values = values_of(alloc, captured, store)?;
-    match whole_bag(alloc, op, &bags, &values) {
+    match whole_loose(alloc, op, &bags, &values) {
         Ok(bag) => Ok(shared(alloc, bag)?),
         Err(WholeStop::Fault(fault)) => Err(Stop::Fault(fault.kind)),
         Err(WholeStop::NoMemory) => Err(Stop::NoMemory),
@@ -208,16 +233,16 @@ fn over_bags(
 }
 
 /// The value of a scalar.
-fn value_of(alloc: Global, bag: &Bag) -> Result<Value, AllocError>
+fn value_of(alloc: Global, bag: &Loose) -> Result<Value, AllocError>
     requires { IsValue bag.now }
     ensures { IfOk result (λ value. bag.now ≡ (value ∷ []) ∷ []) }
 {
-    match bag.rows() {
-        [row] => match row.values() {
+    match bag.single() {
+        Some(row) => match row.values() {
             [value] => value.copy(alloc),
             _ => unreachable!(),
         },
-        _ => unreachable!(),
+        None => unreachable!(),
     }
 }
 
@@ -235,7 +260,7 @@ fn values_of(alloc: Global, args: &[u32], store: &Store) -> Result<Vec<Value>, A
 }
 
 /// The bags of these variables.
-fn bags_of(alloc: Global, args: &[u32], store: &Store) -> Result<Vec<Rc<Bag>>, AllocError>
+fn bags_of(alloc: Global, args: &[u32], store: &Store) -> Result<Vec<Rc<Loose>>, AllocError>
     requires { All (λ variable. variable < length store.now) args.now }
     ensures { IfOk result (λ bags. map (λ bag. bag.value) bags.items ≡ inputs_in store.now args.now) }
 {

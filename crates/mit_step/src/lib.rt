@@ -4,6 +4,7 @@
 mod count;
 mod decisions;
 mod evaluate;
+mod loose;
 mod run;
 mod step;
 mod store;

@@ -5,17 +5,19 @@ ghost use Rattle.mit_world.specs.Files.{FileMap};
 ghost use Rattle.mit_world.specs.Outside.{Rose};
 ghost use Rattle.mit_shelf.specs.Shelf.{Agrees};
 ghost use Rattle.mit_shelf.specs.Stops.{IfFolder};
+ghost use Rattle.mit_ops.specs.Endings.{truth_in};
 ghost use Rattle.mit_ops.specs.Operators.{name_written, whole};
-ghost use Rattle.mit_script.specs.Execution.{Ended, State, assigned, decides, evaluated, goes_on, start, truth_in, written};
+ghost use Rattle.mit_script.specs.Execution.{Ended, State, assigned, decides, evaluated, goes_on, start, written};
 ghost use Rattle.mit_script.specs.Trees.{is_write};
 ghost use Rattle.mit_step.specs.Running.{Asks, Faults, Leaves, Stands, stop_at};
 ghost use Rattle.mit_step.specs.Typing.{Argued, IsMade, inputs_in};
 
 use crate::decisions::Decisions;
 use crate::evaluate::{evaluate, name_of};
+use crate::loose::Loose;
 use crate::store::Store;
 use mit_ops::{FaultKind, OpSpec, ScriptFault};
-use mit_rows::{Bag, Value};
+use mit_rows::Value;
 use mit_shelf::{Shelf, Stop, print_rows};
 use mit_world::{Files, Folder};
 use std::alloc::{AllocError, Global};
@@ -72,7 +74,7 @@ fn bag_of<F: Folder>(
     run: &Run,
     shelf: &mut Shelf,
     folder: &mut F,
-) -> Result<Rc<Bag>, Stop<ScriptFault>>
+) -> Result<Rc<Loose>, Stop<ScriptFault>>
     requires other { is_write op.now ≡ false }
     requires argued { Argued op.now args.now run.now.store }
     ensures answer { (files : FileMap) (state : State) (next : BagOf → Ended) →
@@ -138,16 +140,17 @@ pub(crate) fn write<F: Folder>(
         Ok(name) => name,
         Err(stop) => return Err(run.stop(number, stop)),
     };
-    let text = print_rows(run.alloc, run.store.get(args[0]))?;
+    let bag = run.store.get(args[0]).to_bag(run.alloc)?;
+    let text = print_rows(run.alloc, &bag)?;
     run.files.put_owned(name.as_str(), text)?;
     Ok(())
 }
 
 /// The truth value of a condition's one row.
-fn truth_of(bag: &Bag) -> bool
+fn truth_of(bag: &Loose) -> bool
     ensures { result ≡ truth_in bag.now }
 {
-    let [row] = bag.rows() else {
+    let Some(row) = bag.single() else {
         return false;
     };
     match row.values() {

@@ -1,7 +1,7 @@
 //! The bags of a script's variables.
 ghost use Rattle.std.specs.Prelude.{◌≡◌, ◌<◌, [], get_or, length, replicate, set, IfOk};
 
-use mit_rows::Bag;
+use crate::loose::Loose;
 use std::alloc::{AllocError, Global};
 use std::marker::Model;
 use std::rc::Rc;
@@ -9,7 +9,7 @@ use std::rc::Rc;
 /// The bag of each variable, which contracts see as their list. Variables share a bag where one is a copy of the other.
 #[derive(Drop)]
 pub(crate) struct Store {
-    bags: Vec<Rc<Bag>>,
+    bags: Vec<Rc<Loose>>,
 }
 
 impl Model for Store {
@@ -26,7 +26,7 @@ impl Store {
     pub(crate) fn new(alloc: Global, count: usize) -> Result<Store, AllocError>
         ensures { IfOk result (λ store. store ≡ replicate count []) }
     {
-        let empty = shared(alloc, Bag::from_rows(Vec::new(alloc))?)?;
+        let empty = shared(alloc, Loose::from_rows(Vec::new(alloc)))?;
         let mut bags = Vec::with_capacity(alloc, count)?;
         for _ in 0..count {
             bags.push(empty.clone()?)?;
@@ -35,7 +35,7 @@ impl Store {
     }
 
     /// The bag of a variable.
-    pub(crate) fn get(&self, variable: u32) -> &Rc<Bag>
+    pub(crate) fn get(&self, variable: u32) -> &Rc<Loose>
         requires { variable < length self.now }
         ensures { result.now.value ≡ get_or self.now variable [] }
     {
@@ -43,7 +43,7 @@ impl Store {
     }
 
     /// Gives a variable this bag.
-    pub(crate) fn put(&mut self, variable: u32, bag: Rc<Bag>)
+    pub(crate) fn put(&mut self, variable: u32, bag: Rc<Loose>)
         requires { variable < length self.old }
         ensures { self.new ≡ set self.old variable bag.value }
     {
@@ -52,7 +52,7 @@ impl Store {
 }
 
 /// A bag that may be shared.
-pub(crate) fn shared(alloc: Global, bag: Bag) -> Result<Rc<Bag>, AllocError>
+pub(crate) fn shared(alloc: Global, bag: Loose) -> Result<Rc<Loose>, AllocError>
     ensures { IfOk result (λ kept. kept.value ≡ bag) }
 {
     match Rc::new(alloc, bag) {

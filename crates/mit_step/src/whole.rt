@@ -2,26 +2,30 @@
 ghost use Rattle.std.specs.Prelude.{◌≡◌, ◌≢◌, [], ◌∷◌, IfOk, length, map};
 ghost use Rattle.std.specs.FinMap as fin;
 ghost use Rattle.mit_rows.specs.Bags.{bag_sum};
+ghost use Rattle.mit_ops.specs.Answers.{BagOrFault};
 ghost use Rattle.mit_ops.specs.Kinds.{bag_inputs_of, kind_of};
 ghost use Rattle.mit_ops.specs.Operators.{whole};
 ghost use Rattle.mit_ops.specs.Parts.{Fits};
 ghost use Rattle.mit_step.specs.Stepping.{GivesWhole, inputs_of};
 
 mod answers;
+mod firsts;
 mod groups;
+mod index;
 mod join;
 mod once;
 mod rows;
 
+use crate::loose::{Loose, add_copies, copy_rows};
 use crate::whole::answers::settle;
 use crate::whole::groups::{distinct, reduced};
 use crate::whole::join::joined_rows;
 use crate::whole::once::{counted, made_row, only, summed};
 use crate::whole::rows::{filtered, flattened, mapped};
-use mit_ops::laws::{fitting_groups_law, fitting_law};
+use mit_ops::laws::{fewer_rows_law, fitting_groups_law, fitting_law, partition_law};
 use mit_ops::{OpFault, OpSpec};
 use mit_rows::laws::{bags_are_rows_in_order, bags_are_sorted_lists};
-use mit_rows::{Bag, Value};
+use mit_rows::{Bag, Row, Value};
 use std::alloc::{AllocError, Global};
 use std::rc::Rc;
 use std::slice;
@@ -62,15 +66,82 @@ pub fn whole_bag(
         fin.empty) result }
 {
     match bags {
-        [] => of_none(alloc, spec, captures),
-        [bag] => of_one(alloc, spec, bag, captures),
-        [left, right] => of_two(alloc, spec, left, right, captures),
+        [] => in_order(of_none(alloc, spec, captures)),
+        [bag] => in_order(of_one(alloc, spec, bag.rows(), captures)),
+        [left, right] => in_order(of_two(alloc, spec, left.rows(), right.rows(), captures)),
         _ => unreachable!(),
     }
 }
 
+/// The same answer with its rows in order.
+fn in_order(answer: Result<Loose, WholeStop>) -> Result<Bag, WholeStop>
+    ensures { (due : BagOrFault) → GivesWhole due answer → GivesWhole due result }
+{
+    Ok(answer?.into_bag()?)
+}
+
+/// The same over bags whose rows stand in any order, and it gives such a bag.
+pub(crate) fn whole_loose(
+    alloc: Global,
+    spec: &OpSpec,
+    bags: &[Rc<Loose>],
+    captures: &[Value],
+) -> Result<Loose, WholeStop>
+    requires kind { (kind_of spec.now ≢ 1) × (kind_of spec.now ≢ 14) }
+    requires count { length bags.now ≡ bag_inputs_of spec.now }
+    requires fits { Fits spec.now (inputs_of (map (λ bag. bag.value) bags.now) captures.now) }
+    ensures { GivesWhole (whole spec.now (inputs_of (map (λ bag. bag.value) bags.now) captures.now)
+        fin.empty) result }
+{
+    match bags {
+        [] => of_none(alloc, spec, captures),
+        [bag] => of_loose(alloc, spec, bag, captures),
+        [left, right] => of_two_loose(alloc, spec, left, right, captures),
+        _ => unreachable!(),
+    }
+}
+
+/// What an operator gives that takes one bag, whose rows stand in any order.
+fn of_loose(
+    alloc: Global,
+    spec: &OpSpec,
+    bag: &Loose,
+    captures: &[Value],
+) -> Result<Loose, WholeStop>
+    requires kind { kind_of spec.now ≢ 14 }
+    requires count { bag_inputs_of spec.now ≡ 1 }
+    requires fits { Fits spec.now (inputs_of (bag.now ∷ []) captures.now) }
+    ensures { GivesWhole (whole spec.now (inputs_of (bag.now ∷ []) captures.now) fin.empty) result }
+{
+    partition_law();
+    fewer_rows_law();
+    bags_are_rows_in_order();
+    bags_are_sorted_lists();
+    of_one(alloc, spec, bag.rows(), captures)
+}
+
+/// What an operator gives that takes two bags, whose rows stand in any order.
+fn of_two_loose(
+    alloc: Global,
+    spec: &OpSpec,
+    left: &Loose,
+    right: &Loose,
+    captures: &[Value],
+) -> Result<Loose, WholeStop>
+    requires count { bag_inputs_of spec.now ≡ 2 }
+    requires fits { Fits spec.now (inputs_of (left.now ∷ right.now ∷ []) captures.now) }
+    ensures { GivesWhole (whole spec.now (inputs_of (left.now ∷ right.now ∷ []) captures.now)
+        fin.empty) result }
+{
+    partition_law();
+    fewer_rows_law();
+    bags_are_rows_in_order();
+    bags_are_sorted_lists();
+    of_two(alloc, spec, left.rows(), right.rows(), captures)
+}
+
 /// What an operator gives that takes no bag.
-fn of_none(alloc: Global, spec: &OpSpec, captures: &[Value]) -> Result<Bag, WholeStop>
+fn of_none(alloc: Global, spec: &OpSpec, captures: &[Value]) -> Result<Loose, WholeStop>
     requires kind { kind_of spec.now ≢ 1 }
     requires count { bag_inputs_of spec.now ≡ 0 }
     requires fits { Fits spec.now (inputs_of [] captures.now) }
@@ -80,23 +151,26 @@ fn of_none(alloc: Global, spec: &OpSpec, captures: &[Value]) -> Result<Bag, Whol
     match spec {
         OpSpec::Scalar { expr } => made_row(alloc, slice::from_ref(expr), captures),
         OpSpec::MakeRow { exprs } => made_row(alloc, exprs.as_slice(), captures),
-        OpSpec::Empty { .. } => Ok(Bag::from_rows(Vec::new(alloc))?),
+        OpSpec::Empty { .. } => Ok(Loose::from_rows(Vec::new(alloc))),
         _ => unreachable!(),
     }
 }
 
-/// What an operator gives that takes one bag.
-fn of_one(alloc: Global, spec: &OpSpec, bag: &Bag, captures: &[Value]) -> Result<Bag, WholeStop>
+/// What an operator gives that takes one bag, over its rows in any order.
+fn of_one(
+    alloc: Global,
+    spec: &OpSpec,
+    rows: &[Row],
+    captures: &[Value],
+) -> Result<Loose, WholeStop>
     requires kind { kind_of spec.now ≢ 14 }
     requires count { bag_inputs_of spec.now ≡ 1 }
-    requires fits { Fits spec.now (inputs_of (bag.now ∷ []) captures.now) }
-    ensures { GivesWhole (whole spec.now (inputs_of (bag.now ∷ []) captures.now) fin.empty) result }
+    requires fits { Fits spec.now (inputs_of (rows.now ∷ []) captures.now) }
+    ensures { GivesWhole (whole spec.now (inputs_of (rows.now ∷ []) captures.now) fin.empty) result }
 {
     fitting_law();
     fitting_groups_law();
     bags_are_sorted_lists();
-    bags_are_rows_in_order();
-    let rows = bag.rows();
     match spec {
         OpSpec::Map { exprs } => settle(mapped(alloc, exprs.as_slice(), rows, captures)?),
         OpSpec::Filter { expr } => settle(filtered(alloc, expr, rows, captures)?),
@@ -106,19 +180,19 @@ fn of_one(alloc: Global, spec: &OpSpec, bag: &Bag, captures: &[Value]) -> Result
         OpSpec::Only => only(alloc, rows),
         OpSpec::Count => counted(alloc, rows),
         OpSpec::Sum { column } => summed(alloc, *column, rows),
-        OpSpec::Copy => Ok(bag.copy(alloc)?),
+        OpSpec::Copy => Ok(Loose::from_rows(copy_rows(alloc, rows)?)),
         _ => unreachable!(),
     }
 }
 
-/// What an operator gives that takes two bags.
+/// What an operator gives that takes two bags, over their rows in any order.
 fn of_two(
     alloc: Global,
     spec: &OpSpec,
-    left: &Bag,
-    right: &Bag,
+    left: &[Row],
+    right: &[Row],
     captures: &[Value],
-) -> Result<Bag, WholeStop>
+) -> Result<Loose, WholeStop>
     requires count { bag_inputs_of spec.now ≡ 2 }
     requires fits { Fits spec.now (inputs_of (left.now ∷ right.now ∷ []) captures.now) }
     ensures { GivesWhole (whole spec.now (inputs_of (left.now ∷ right.now ∷ []) captures.now)
@@ -131,13 +205,7 @@ fn of_two(
             left: by_left,
             right: by_right,
         } => {
-            let answer = joined_rows(
-                alloc,
-                by_left.as_slice(),
-                left.rows(),
-                by_right.as_slice(),
-                right.rows(),
-            )?;
+            let answer = joined_rows(alloc, by_left.as_slice(), left, by_right.as_slice(), right)?;
             settle(answer)
         }
         OpSpec::Union => Ok(union(alloc, left, right)?),
@@ -146,11 +214,11 @@ fn of_two(
 }
 
 /// The sum of two bags.
-fn union(alloc: Global, left: &Bag, right: &Bag) -> Result<Bag, AllocError>
+fn union(alloc: Global, left: &[Row], right: &[Row]) -> Result<Loose, AllocError>
     ensures { IfOk result (λ bag. bag ≡ bag_sum (left.now ∷ right.now ∷ [])) }
 {
-    let mut bags = Vec::with_capacity(alloc, 2)?;
-    bags.push(left.copy(alloc)?)?;
-    bags.push(right.copy(alloc)?)?;
-    Bag::join_all(alloc, bags)
+    let mut rows = Vec::with_capacity(alloc, left.len().saturating_add(right.len()))?;
+    add_copies(alloc, left, &mut rows)?;
+    add_copies(alloc, right, &mut rows)?;
+    Ok(Loose::from_rows(rows))
 }

@@ -4,18 +4,19 @@ ghost use Rattle.mit_ops.specs.Answers.{RowsOrKind, at_row, both};
 ghost use Rattle.mit_ops.specs.Stops.{Stops};
 ghost use Rattle.mit_step.specs.Stepping.{GivesWhole};
 
+use crate::loose::Loose;
 use crate::whole::WholeStop;
 use mit_ops::laws::answers_add_up;
 use mit_ops::{Answer, OpStop};
-use mit_rows::{Bag, Row};
+use mit_rows::Row;
 use std::alloc::{AllocError, Global};
 
 /// The bag of an answer, or its fault.
-pub fn settle(answer: Answer) -> Result<Bag, WholeStop>
+pub fn settle(answer: Answer) -> Result<Loose, WholeStop>
     ensures { GivesWhole answer result }
 {
     match answer.finish() {
-        Ok(rows) => Ok(Bag::from_rows(rows)?),
+        Ok(rows) => Ok(Loose::from_rows(rows)),
         Err(fault) => Err(WholeStop::Fault(fault)),
     }
 }

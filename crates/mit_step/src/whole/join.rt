@@ -1,59 +1,19 @@
 //! The join of two bags, by an index of the rows of the first.
-ghost use Rattle.std.specs.Prelude.{◌≡◌, ◌≤◌, ◌<◌, ◌+◌, ◌++◌, ◌==◌, [], ◌∷◌, IfOk, ℕ, Ok, OnOk, if◌then◌else◌, length, map};
+ghost use Rattle.std.specs.Prelude.{◌≡◌, ◌≤◌, ◌<◌, ◌+◌, ◌++◌, IfOk, Ok, OnOk, length, map};
 ghost use Rattle.std.specs.List.{All};
 ghost use Rattle.mit_rows.specs.declared.row.TheConstants.{MAX_COLUMNS};
 ghost use Rattle.mit_ops.specs.Answers.{both, over};
 ghost use Rattle.mit_ops.specs.Forms.{with_key};
 ghost use Rattle.mit_ops.specs.Keys.{key_of};
-ghost use Rattle.mit_step.specs.Indexes.{IsIndex, found, rows_at};
+ghost use Rattle.mit_step.specs.Indexes.{IsIndex, rows_at};
 
 use crate::whole::answers::add_rows;
+use crate::whole::index::{Places, note_place};
 use indexmap::IndexMap;
 use mit_ops::laws::answers_add_up;
 use mit_ops::{Answer, hash_of, joined, same_key};
 use mit_rows::Row;
 use std::alloc::{AllocError, Global};
-use std::marker::Model;
-
-/// Places of rows in a list, which contracts see as their list.
-#[derive(Debug, Drop)]
-struct Places {
-    places: Vec<usize>,
-}
-
-impl Model for Places {
-    ghost use Rattle.std.specs.Prelude.{List, ℕ};
-
-    ghost Value = { List ℕ };
-
-    ghost view = { λ p. p.places.items };
-}
-
-impl Places {
-    // This one place.
-    fn one(alloc: Global, place: usize) -> Result<Places, AllocError>
-        ensures { IfOk result (λ places. places ≡ place ∷ []) }
-    {
-        Ok(Places {
-            places: Vec::from_slice(alloc, &[place])?,
-        })
-    }
-
-    // Adds a place.
-    fn push(&mut self, place: usize) -> Result<(), AllocError>
-        ensures { OnOk result (self.new ≡ self.old ++ place ∷ []) }
-    {
-        self.places.push(place)?;
-        Ok(())
-    }
-
-    // The places.
-    fn as_slice(&self) -> &[usize]
-        ensures { result.now ≡ self.now }
-    {
-        &self.places
-    }
-}
 
 /// The answer of a join by these columns over these rows.
 pub fn joined_rows(
@@ -86,25 +46,6 @@ fn indexed(alloc: Global, left: &[u8], lefts: &[Row]) -> Result<IndexMap<u64, Pl
         note_place(alloc, hash_of(left, row), place, &mut index)?;
     }
     Ok(index)
-}
-
-/// Adds a place to those of a hash.
-fn note_place(
-    alloc: Global,
-    hash: u64,
-    place: usize,
-    index: &mut IndexMap<u64, Places>,
-) -> Result<(), AllocError>
-    ensures { OnOk result ((n : ℕ) → found n index.new.entries
-        ≡ (if n == hash then found hash index.old.entries ++ place ∷ [] else found n index.old.entries)) }
-{
-    match index.get_mut(&hash) {
-        Some(places) => places.push(place),
-        None => {
-            index.insert(hash, Places::one(alloc, place)?)?;
-            Ok(())
-        }
-    }
 }
 
 /// Adds each row of the first bag that has the key of this row, followed by it.

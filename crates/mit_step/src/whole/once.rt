@@ -15,14 +15,15 @@ ghost use Rattle.mit_ops.specs.Stops.{Gives, Stops};
 ghost use Rattle.mit_ops.specs.Totals.{total};
 ghost use Rattle.mit_step.specs.Stepping.{GivesWhole};
 
+use crate::loose::Loose;
 use crate::whole::WholeStop;
 use mit_expr::Expr;
 use mit_ops::{Agg, FaultKind, OpFault, OpStop, Total, row_of_exprs};
-use mit_rows::{Bag, Row, Value};
+use mit_rows::{Row, Value};
 use std::alloc::{AllocError, Global};
 
 /// The bag of the one row of the expressions' values.
-pub fn made_row(alloc: Global, exprs: &[Expr], captures: &[Value]) -> Result<Bag, WholeStop>
+pub fn made_row(alloc: Global, exprs: &[Expr], captures: &[Value]) -> Result<Loose, WholeStop>
     requires few { length exprs.now ≤ MAX_COLUMNS }
     requires typed { IsSome (types_of (type_in [] (map type_of_value captures.now)) exprs.now) }
     ensures { GivesWhole (settled (at_row [] (spec.row_of_exprs captures.now exprs.now []))) result }
@@ -35,7 +36,7 @@ pub fn made_row(alloc: Global, exprs: &[Expr], captures: &[Value]) -> Result<Bag
 }
 
 /// The bag of the one row that there is.
-pub fn only(alloc: Global, rows: &[Row]) -> Result<Bag, WholeStop>
+pub fn only(alloc: Global, rows: &[Row]) -> Result<Loose, WholeStop>
     ensures { GivesWhole (settled (at_row [] (single rows.now))) result }
 {
     match rows {
@@ -48,7 +49,7 @@ pub fn only(alloc: Global, rows: &[Row]) -> Result<Bag, WholeStop>
 }
 
 /// The bag of how many rows there are.
-pub fn counted(alloc: Global, rows: &[Row]) -> Result<Bag, WholeStop>
+pub fn counted(alloc: Global, rows: &[Row]) -> Result<Loose, WholeStop>
     ensures { GivesWhole (settled (at_row [] (given (within (pos (length rows.now))) one_value))) result }
 {
     match i64::try_from(rows.len()) {
@@ -58,7 +59,7 @@ pub fn counted(alloc: Global, rows: &[Row]) -> Result<Bag, WholeStop>
 }
 
 /// The bag of the exact sum of a column.
-pub fn summed(alloc: Global, column: u8, rows: &[Row]) -> Result<Bag, WholeStop>
+pub fn summed(alloc: Global, column: u8, rows: &[Row]) -> Result<Loose, WholeStop>
     requires { All (λ row. slice_get (map type_of_value row) column ≡ Some is.Int) rows.now }
     ensures { GivesWhole (settled (at_row [] (given (within (total column rows.now)) one_value))) result }
 {
@@ -70,7 +71,7 @@ pub fn summed(alloc: Global, column: u8, rows: &[Row]) -> Result<Bag, WholeStop>
 }
 
 /// The bag of a value, or the fault in its place.
-fn bag_of_value(alloc: Global, found: Result<Value, OpStop>) -> Result<Bag, WholeStop>
+fn bag_of_value(alloc: Global, found: Result<Value, OpStop>) -> Result<Loose, WholeStop>
     ensures { (due : ValueOrFault) → Gives due found
         → GivesWhole (settled (at_row [] (given due one_value))) result }
 {
@@ -81,12 +82,12 @@ fn bag_of_value(alloc: Global, found: Result<Value, OpStop>) -> Result<Bag, Whol
 }
 
 /// The bag of one row.
-fn bag_of_row(alloc: Global, row: Row) -> Result<Bag, AllocError>
+fn bag_of_row(alloc: Global, row: Row) -> Result<Loose, AllocError>
     ensures { IfOk result (λ bag. bag ≡ bag_of (row ∷ [])) }
 {
     let mut rows = Vec::new(alloc);
     rows.push(row)?;
-    Bag::from_rows(rows)
+    Ok(Loose::from_rows(rows))
 }
 
 /// Why there is no bag, where an operator stops at no row.

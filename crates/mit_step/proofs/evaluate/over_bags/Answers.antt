@@ -14,15 +14,15 @@ values_of-requires-clause-values c =
     let count : c.from.result ≡ bag_inputs_of c.args.op.now = c.from.ensures ∙ c.bag_inputs.ensures in
     subst (λ args. All IsValue (inputs_in c.args.store.now args)) (sym (c.split_at.ensures.back ∙ ap (λ n. drop n c.args.args.now) count)) c.requires.argued.values
 
-pub whole_bag-requires-clause-count : goal.whole_bag-requires-clause-count
-whole_bag-requires-clause-count c =
+pub whole_loose-requires-clause-count : goal.whole_loose-requires-clause-count
+whole_loose-requires-clause-count c =
     let count : c.from.result ≡ bag_inputs_of c.args.op.now = c.from.ensures ∙ c.bag_inputs.ensures in
     let front : c.split_at.result.0.now ≡ take (bag_inputs_of c.args.op.now) c.args.args.now = c.split_at.ensures.front ∙ ap (λ n. take n c.args.args.now) count in
     ap length c.deref.ensures.value ∙ (sym (length-map c.in_ok-bags.bags.items (λ bag. bag.value)) ∙ (ap length c.in_ok-bags.ensures
     ∙ (length-map c.split_at.result.0.now (bag_in c.args.store.now) ∙ (ap length front ∙ length-take-le (bag_inputs_of c.args.op.now) c.args.args.now c.requires.argued.complete))))
 
-pub whole_bag-requires-clause-fits : goal.whole_bag-requires-clause-fits
-whole_bag-requires-clause-fits c =
+pub whole_loose-requires-clause-fits : goal.whole_loose-requires-clause-fits
+whole_loose-requires-clause-fits c =
     let same = same_inputs c.args.store.now c.args.args.now c.from.result (map (λ bag. bag.value) c.deref.result.now) c.deref-2.result.now
     (ap (map (λ bag. bag.value)) c.deref.ensures.value ∙ (c.in_ok-bags.ensures ∙ ap (inputs_in c.args.store.now) c.split_at.ensures.front))
     (ap (map (λ value. (value ∷ []) ∷ [])) c.deref-2.ensures.value ∙ (c.in_ok-values.ensures ∙ ap (inputs_in c.args.store.now) c.split_at.ensures.back)) in

@@ -1,5 +1,6 @@
 use Rattle.std.proofs.Common.{◌≡◌, ◌∙◌, ◌+◌, Err, ap, refl, rules, sym, subst}
-use Rattle.mit_script.specs.Execution.{decides, taken, truth_in}
+use Rattle.mit_ops.specs.Endings.{truth_in}
+use Rattle.mit_script.specs.Execution.{decides, taken}
 use Rattle.mit_step.specs.Running.{Leaves}
 use Rattle.mit_step.proofs.Steps.{taken_of}
 use Rattle.mit_step.proofs.run.decide.Goals as goal

@@ -16,7 +16,7 @@ returns-in-Err-clause-answer g c = λ files state agrees stands.
 pub returns-clause-answer : goal.returns-clause-answer
 returns-clause-answer g c = λ files state agrees stands.
     let bag = bag_in c.args.run.now.store (get_or c.args.args.now 0 0) in
-    let text : c.in_ok-text.text.items ≡ bag_text bag = c.in_ok-text.ensures ∙ ap bag_text (c.deref.ensures ∙ c.get.ensures) in
+    let text : c.in_ok-text.text.items ≡ bag_text bag = c.in_ok-text.ensures ∙ ap bag_text (c.in_ok-bag.ensures ∙ (c.deref.ensures ∙ c.get.ensures)) in
     let put : c.put_owned.new.self ≡ fin.insert c.args.run.now.files c.in-Ok.name c.in_ok-text.text.items =
     c.in_ok-put_owned.ensures.ok ∙ ap (λ name. fin.insert c.args.run.now.files name c.in_ok-text.text.items) c.as_str.ensures.value in (
       record state { writes = state.writes ++ record { name = c.in-Ok.name; bag = bag } ∷ [] },

@@ -32,7 +32,7 @@ returns-in-MakeRow c =
     of_kind c.args.spec.now (op.MakeRow c.in-MakeRow.exprs) [] c.args.captures.now (settled (at_row [] (row_of_exprs c.args.captures.now c.in-MakeRow.exprs [])))
     c.made_row-in-MakeRow.result c.in-MakeRow.is refl refl (rw c.as_slice.ensures at c.made_row-in-MakeRow.ensures)
 
-pub returns-in_ok-from_rows-in-Empty : goal.returns-in_ok-from_rows-in-Empty
-returns-in_ok-from_rows-in-Empty c =
-    of_kind c.args.spec.now (op.Empty c.in-Empty.types) [] c.args.captures.now (Ok c.in_ok-from_rows-in-Empty.field-0) (Ok c.in_ok-from_rows-in-Empty.field-0)
-    c.in-Empty.is refl (ap Ok (c.in_ok-from_rows-in-Empty.ensures ∙ ap bag_of c.new.ensures.items)) refl
+pub returns-in-Empty : goal.returns-in-Empty
+returns-in-Empty c =
+    of_kind c.args.spec.now (op.Empty c.in-Empty.types) [] c.args.captures.now (Ok c.from_rows.result) (Ok c.from_rows.result)
+    c.in-Empty.is refl (ap Ok (c.from_rows.ensures ∙ ap bag_of c.new.ensures.items)) refl

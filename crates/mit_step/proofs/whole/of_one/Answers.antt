@@ -12,66 +12,66 @@ use Rattle.mit_step.proofs.whole.of_one.Goals as goal
 
 pub mapped-requires-clause-typed : goal.mapped-requires-clause-typed
 mapped-requires-clause-typed c =
-    rw (c.rows-rows.ensures.value, c.as_slice.ensures) (c.fitting_law.ensures.map c.in-Map.exprs (inputs_of (c.args.bag.now ∷ []) c.args.captures.now) c.args.captures.now
-    (fits_as c.args.spec.now (op.Map c.in-Map.exprs) (inputs_of (c.args.bag.now ∷ []) c.args.captures.now) c.in-Map.is c.requires.fits) (captures_are (op.Map c.in-Map.exprs) (c.args.bag.now ∷ []) c.args.captures.now refl))
+    rw c.as_slice.ensures (c.fitting_law.ensures.map c.in-Map.exprs (inputs_of (c.args.rows.now ∷ []) c.args.captures.now) c.args.captures.now
+    (fits_as c.args.spec.now (op.Map c.in-Map.exprs) (inputs_of (c.args.rows.now ∷ []) c.args.captures.now) c.in-Map.is c.requires.fits) (captures_are (op.Map c.in-Map.exprs) (c.args.rows.now ∷ []) c.args.captures.now refl))
 
 pub filtered-requires : goal.filtered-requires
 filtered-requires c =
-    rw c.rows-rows.ensures.value (c.fitting_law.ensures.filter c.in-Filter.expr (inputs_of (c.args.bag.now ∷ []) c.args.captures.now) c.args.captures.now
-    (fits_as c.args.spec.now (op.Filter c.in-Filter.expr) (inputs_of (c.args.bag.now ∷ []) c.args.captures.now) c.in-Filter.is c.requires.fits) (captures_are (op.Filter c.in-Filter.expr) (c.args.bag.now ∷ []) c.args.captures.now refl))
+    (c.fitting_law.ensures.filter c.in-Filter.expr (inputs_of (c.args.rows.now ∷ []) c.args.captures.now) c.args.captures.now
+    (fits_as c.args.spec.now (op.Filter c.in-Filter.expr) (inputs_of (c.args.rows.now ∷ []) c.args.captures.now) c.in-Filter.is c.requires.fits) (captures_are (op.Filter c.in-Filter.expr) (c.args.rows.now ∷ []) c.args.captures.now refl))
 
 pub flattened-requires-clause-typed : goal.flattened-requires-clause-typed
 flattened-requires-clause-typed c =
-    rw c.rows-rows.ensures.value (c.fitting_law.ensures.flat c.in-FlatMap.flat (inputs_of (c.args.bag.now ∷ []) c.args.captures.now) c.args.captures.now
-    (fits_as c.args.spec.now (op.FlatMap c.in-FlatMap.flat) (inputs_of (c.args.bag.now ∷ []) c.args.captures.now) c.in-FlatMap.is c.requires.fits) (captures_are (op.FlatMap c.in-FlatMap.flat) (c.args.bag.now ∷ []) c.args.captures.now refl))
+    (c.fitting_law.ensures.flat c.in-FlatMap.flat (inputs_of (c.args.rows.now ∷ []) c.args.captures.now) c.args.captures.now
+    (fits_as c.args.spec.now (op.FlatMap c.in-FlatMap.flat) (inputs_of (c.args.rows.now ∷ []) c.args.captures.now) c.in-FlatMap.is c.requires.fits) (captures_are (op.FlatMap c.in-FlatMap.flat) (c.args.rows.now ∷ []) c.args.captures.now refl))
 
 pub reduced-requires-clause-there : goal.reduced-requires-clause-there
 reduced-requires-clause-there c some among =
-    c.fitting_groups_law.ensures.reduce c.in-Reduce.keys c.in-Reduce.agg (inputs_of (c.args.bag.now ∷ []) c.args.captures.now) some
-    (fits_as c.args.spec.now (op.Reduce c.in-Reduce.keys c.in-Reduce.agg) (inputs_of (c.args.bag.now ∷ []) c.args.captures.now) c.in-Reduce.is c.requires.fits) (rw c.rows-rows.ensures.value at among)
+    c.fitting_groups_law.ensures.reduce c.in-Reduce.keys c.in-Reduce.agg (inputs_of (c.args.rows.now ∷ []) c.args.captures.now) some
+    (fits_as c.args.spec.now (op.Reduce c.in-Reduce.keys c.in-Reduce.agg) (inputs_of (c.args.rows.now ∷ []) c.args.captures.now) c.in-Reduce.is c.requires.fits) among
 
 pub returns-in_ok-mapped-in-Map : goal.returns-in_ok-mapped-in-Map
 returns-in_ok-mapped-in-Map c =
-    of_kind c.args.spec.now (op.Map c.in-Map.exprs) (c.args.bag.now ∷ []) c.args.captures.now c.in_ok-mapped-in-Map.field-0 c.settle.result c.in-Map.is refl
-    ((rw (c.rows-rows.ensures.value, c.as_slice.ensures) at c.in_ok-mapped-in-Map.ensures) ∙ ap (over (λ (row : RowOf). at_row row (row_of_exprs c.args.captures.now c.in-Map.exprs row))) (sym (one_bag c.args.bag.now))) c.settle.ensures
+    of_kind c.args.spec.now (op.Map c.in-Map.exprs) (c.args.rows.now ∷ []) c.args.captures.now c.in_ok-mapped-in-Map.field-0 c.settle.result c.in-Map.is refl
+    ((rw c.as_slice.ensures at c.in_ok-mapped-in-Map.ensures) ∙ ap (over (λ (row : RowOf). at_row row (row_of_exprs c.args.captures.now c.in-Map.exprs row))) (sym (one_bag c.args.rows.now))) c.settle.ensures
 
 pub returns-in_ok-filtered-in-Filter : goal.returns-in_ok-filtered-in-Filter
 returns-in_ok-filtered-in-Filter c =
-    of_kind c.args.spec.now (op.Filter c.in-Filter.expr) (c.args.bag.now ∷ []) c.args.captures.now c.in_ok-filtered-in-Filter.field-0 c.settle-in-Filter.result c.in-Filter.is refl
-    ((rw c.rows-rows.ensures.value at c.in_ok-filtered-in-Filter.ensures) ∙ ap (over (λ (row : RowOf). at_row row (filtered c.args.captures.now c.in-Filter.expr row))) (sym (one_bag c.args.bag.now))) c.settle-in-Filter.ensures
+    of_kind c.args.spec.now (op.Filter c.in-Filter.expr) (c.args.rows.now ∷ []) c.args.captures.now c.in_ok-filtered-in-Filter.field-0 c.settle-in-Filter.result c.in-Filter.is refl
+    (c.in_ok-filtered-in-Filter.ensures ∙ ap (over (λ (row : RowOf). at_row row (filtered c.args.captures.now c.in-Filter.expr row))) (sym (one_bag c.args.rows.now))) c.settle-in-Filter.ensures
 
 pub returns-in_ok-flattened-in-FlatMap : goal.returns-in_ok-flattened-in-FlatMap
 returns-in_ok-flattened-in-FlatMap c =
-    of_kind c.args.spec.now (op.FlatMap c.in-FlatMap.flat) (c.args.bag.now ∷ []) c.args.captures.now c.in_ok-flattened-in-FlatMap.field-0 c.settle-in-FlatMap.result c.in-FlatMap.is refl
-    ((rw c.rows-rows.ensures.value at c.in_ok-flattened-in-FlatMap.ensures) ∙ ap (over (λ (row : RowOf). at_row row (flattened c.args.captures.now c.in-FlatMap.flat row))) (sym (one_bag c.args.bag.now))) c.settle-in-FlatMap.ensures
+    of_kind c.args.spec.now (op.FlatMap c.in-FlatMap.flat) (c.args.rows.now ∷ []) c.args.captures.now c.in_ok-flattened-in-FlatMap.field-0 c.settle-in-FlatMap.result c.in-FlatMap.is refl
+    (c.in_ok-flattened-in-FlatMap.ensures ∙ ap (over (λ (row : RowOf). at_row row (flattened c.args.captures.now c.in-FlatMap.flat row))) (sym (one_bag c.args.rows.now))) c.settle-in-FlatMap.ensures
 
 pub returns-in_ok-reduced-in-Reduce : goal.returns-in_ok-reduced-in-Reduce
 returns-in_ok-reduced-in-Reduce c =
-    of_kind c.args.spec.now (op.Reduce c.in-Reduce.keys c.in-Reduce.agg) (c.args.bag.now ∷ []) c.args.captures.now c.in_ok-reduced-in-Reduce.field-0 c.settle-in-Reduce.result c.in-Reduce.is refl
-    (rw (c.rows-rows.ensures.value, c.as_slice-in-Reduce.ensures) at c.in_ok-reduced-in-Reduce.ensures) c.settle-in-Reduce.ensures
+    of_kind c.args.spec.now (op.Reduce c.in-Reduce.keys c.in-Reduce.agg) (c.args.rows.now ∷ []) c.args.captures.now c.in_ok-reduced-in-Reduce.field-0 c.settle-in-Reduce.result c.in-Reduce.is refl
+    (rw c.as_slice-in-Reduce.ensures at c.in_ok-reduced-in-Reduce.ensures) c.settle-in-Reduce.ensures
 
 pub returns-in_ok-distinct-in-Distinct : goal.returns-in_ok-distinct-in-Distinct
 returns-in_ok-distinct-in-Distinct c =
-    of_kind c.args.spec.now (op.Distinct) (c.args.bag.now ∷ []) c.args.captures.now c.in_ok-distinct-in-Distinct.field-0 c.settle-in-Distinct.result c.in-Distinct.is refl
-    (rw c.rows-rows.ensures.value at c.in_ok-distinct-in-Distinct.ensures) c.settle-in-Distinct.ensures
+    of_kind c.args.spec.now (op.Distinct) (c.args.rows.now ∷ []) c.args.captures.now c.in_ok-distinct-in-Distinct.field-0 c.settle-in-Distinct.result c.in-Distinct.is refl
+    c.in_ok-distinct-in-Distinct.ensures c.settle-in-Distinct.ensures
 
 pub returns-in-Only : goal.returns-in-Only
 returns-in-Only c =
-    of_kind c.args.spec.now (op.Only) (c.args.bag.now ∷ []) c.args.captures.now (settled (at_row [] (single c.args.bag.now))) c.only.result c.in-Only.is refl
-    refl (rw c.rows-rows.ensures.value at c.only.ensures)
+    of_kind c.args.spec.now (op.Only) (c.args.rows.now ∷ []) c.args.captures.now (settled (at_row [] (single c.args.rows.now))) c.only.result c.in-Only.is refl
+    refl c.only.ensures
 
 pub returns-in-Count : goal.returns-in-Count
 returns-in-Count c =
-    of_kind c.args.spec.now (op.Count) (c.args.bag.now ∷ []) c.args.captures.now (settled (at_row [] (given (within (pos (length c.args.bag.now))) one_value))) c.counted.result c.in-Count.is refl
-    refl (rw c.rows-rows.ensures.value at c.counted.ensures)
+    of_kind c.args.spec.now (op.Count) (c.args.rows.now ∷ []) c.args.captures.now (settled (at_row [] (given (within (pos (length c.args.rows.now))) one_value))) c.counted.result c.in-Count.is refl
+    refl c.counted.ensures
 
 pub returns-in-Sum : goal.returns-in-Sum
 returns-in-Sum c =
-    of_kind c.args.spec.now (op.Sum c.in-Sum.column) (c.args.bag.now ∷ []) c.args.captures.now (settled (at_row [] (given (within (total c.in-Sum.column c.args.bag.now)) one_value))) c.summed.result c.in-Sum.is refl
-    refl (rw c.rows-rows.ensures.value at c.summed.ensures)
+    of_kind c.args.spec.now (op.Sum c.in-Sum.column) (c.args.rows.now ∷ []) c.args.captures.now (settled (at_row [] (given (within (total c.in-Sum.column c.args.rows.now)) one_value))) c.summed.result c.in-Sum.is refl
+    refl c.summed.ensures
 
-pub returns-in_ok-copy-in-Copy : goal.returns-in_ok-copy-in-Copy
-returns-in_ok-copy-in-Copy c =
-    of_kind c.args.spec.now op.Copy (c.args.bag.now ∷ []) c.args.captures.now (Ok c.in_ok-copy-in-Copy.field-0) (Ok c.in_ok-copy-in-Copy.field-0) c.in-Copy.is refl
-    (ap Ok (c.in_ok-copy-in-Copy.ensures ∙ c.rows-rows.ensures.sorted ∙ ap bag_of (sym (one_bag c.args.bag.now)))
-    ∙ sym (rows_themselves c.bags_are_sorted_lists.ensures.sorted c.bags_are_sorted_lists.ensures.parts (all_rows (c.args.bag.now ∷ [])))) refl
+pub returns-in_ok-copy_rows-in-Copy : goal.returns-in_ok-copy_rows-in-Copy
+returns-in_ok-copy_rows-in-Copy c =
+    of_kind c.args.spec.now op.Copy (c.args.rows.now ∷ []) c.args.captures.now (Ok c.from_rows.result) (Ok c.from_rows.result) c.in-Copy.is refl
+    (ap Ok (c.from_rows.ensures ∙ ap bag_of (c.in_ok-copy_rows-in-Copy.ensures ∙ sym (one_bag c.args.rows.now)))
+    ∙ sym (rows_themselves c.bags_are_sorted_lists.ensures.sorted c.bags_are_sorted_lists.ensures.parts (all_rows (c.args.rows.now ∷ [])))) refl

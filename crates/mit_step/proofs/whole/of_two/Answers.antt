@@ -8,7 +8,7 @@ pub returns-in_ok-answer-in-Join : goal.returns-in_ok-answer-in-Join
 returns-in_ok-answer-in-Join c =
     of_kind c.args.spec.now (op.Join c.in-Join.by_left c.in-Join.by_right) (c.args.left.now ∷ c.args.right.now ∷ []) c.args.captures.now
     c.in_ok-answer-in-Join.answer c.settle.result c.in-Join.is refl
-    (rw (c.as_slice.ensures, c.rows.ensures.value, c.as_slice-in-Join.ensures, c.rows-in-Join.ensures.value) at c.in_ok-answer-in-Join.ensures) c.settle.ensures
+    (rw (c.as_slice.ensures, c.as_slice-in-Join.ensures) at c.in_ok-answer-in-Join.ensures) c.settle.ensures
 
 pub returns-in_ok-union-in-Union : goal.returns-in_ok-union-in-Union
 returns-in_ok-union-in-Union c =

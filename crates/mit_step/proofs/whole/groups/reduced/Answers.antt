@@ -1,36 +1,40 @@
-use Rattle.std.proofs.Common.{◌≡◌, ◌∙◌, rules}
+use Rattle.std.proofs.Common.{◌∙◌, ◌<◌, ◌≤◌, [], ap, map, subst, sym}
+use Rattle.std.proofs.lemmas.List.{get_or_default, take_all}
 use Rattle.mit_rows.specs.Bags.{RowOf}
-use Rattle.mit_ops.specs.Forms.{with_key}
+use Rattle.mit_ops.specs.Answers.{over}
+use Rattle.mit_ops.specs.Forms.{once_each, with_key}
 use Rattle.mit_ops.specs.Keys.{key_of}
-use Rattle.mit_ops.specs.declared.total.Total.{Total}
-use Rattle.mit_step.proofs.Reductions.{IsGroup, left_first, left_next, left_start, of_key}
-use Rattle.mit_step.proofs.Sums.{none_left}
+use Rattle.mit_ops.specs.TotalStored.{total_of}
+use Rattle.mit_step.proofs.Reductions.{as_many_totals, key_is, of_key, total_is, total_there}
+use Rattle.mit_step.proofs.Sums.{over_start, over_step}
 use Rattle.mit_step.proofs.whole.groups.reduced.Goals as goal
 
-pub loop-key-init : goal.loop-key-init
-loop-key-init c =
-    let start : c.into_iter-key-iterator.result ≡ c.in_ok-groups.groups.entries = search rules in
-    left_start c.args.keys.now c.args.agg c.args.rows.now c.answers_add_up.ensures.groups c.answers_add_up.ensures.commutes c.requires.there c.requires.narrow
-    (λ row. c.fitting_groups_law.ensures.key c.args.keys.now row) c.new-answer.result c.into_iter-key-iterator.result c.new-answer.ensures (start ∙ c.in_ok-groups.ensures)
+pub loop-number-init : goal.loop-number-init
+loop-number-init c = c.new-answer.ensures ∙ sym (over_start _)
 
 pub add_group-requires-clause-there : goal.add_group-requires-clause-there
 add_group-requires-clause-there c =
-    (left_first c.args.keys.now c.args.agg c.args.rows.now c.in-Some.key c.in-Some.total c.loop-key.answer c.loop-key.key-iterator c.next.new.self
-    c.in-Some.ensures.steps c.loop-key.invariant).there
+    let groups = c.in_ok-groups.groups in
+    let sized = c.len-number-end.ensures ∙ (groups.totals.ok.0 ∙ as_many_totals (key_of c.args.keys.now) c.args.agg c.args.rows.now groups c.in_ok-groups.ensures) in
+    let within = subst (λ n. c.loop-number.number < n) sized c.loop-number-test.true in
+    total_there (key_of c.args.keys.now) c.args.agg c.args.rows.now groups c.in_ok-groups.ensures c.loop-number.number within c.index-in-loop-number.result.now c.index-in-loop-number.ensures c.requires.there
 
-pub add_group-requires-clause-narrow : goal.add_group-requires-clause-narrow
-add_group-requires-clause-narrow c =
-    (left_first c.args.keys.now c.args.agg c.args.rows.now c.in-Some.key c.in-Some.total c.loop-key.answer c.loop-key.key-iterator c.next.new.self
-    c.in-Some.ensures.steps c.loop-key.invariant).narrow
-
-pub loop-key-preserved : goal.loop-key-preserved
-loop-key-preserved c =
-    let here : IsGroup c.args.keys.now c.args.agg c.args.rows.now (c.in-Some.key, c.in-Some.total) = left_first _ _ _ _ _ c.loop-key.answer c.loop-key.key-iterator c.next.new.self c.in-Some.ensures.steps c.loop-key.invariant in
-    left_next c.args.keys.now c.args.agg c.args.rows.now c.answers_add_up.ensures.groups c.in-Some.key c.in-Some.total c.loop-key.answer c.add_group.new.answer
-    c.loop-key.key-iterator c.next.new.self c.in-Some.ensures.steps c.loop-key.invariant
-    (c.in_ok-add_group.ensures c.args.agg (with_key (key_of c.args.keys.now) c.in-Some.key c.args.rows.now) here.is)
+pub loop-number-preserved : goal.loop-number-preserved
+loop-number-preserved c =
+    let groups = c.in_ok-groups.groups in
+    let key = key_of c.args.keys.now in
+    let keys = once_each (map key c.args.rows.now) in
+    let sized = c.len-number-end.ensures ∙ (groups.totals.ok.0 ∙ as_many_totals key c.args.agg c.args.rows.now groups c.in_ok-groups.ensures) in
+    let within = subst (λ n. c.loop-number.number < n) sized c.loop-number-test.true in
+    let is = c.in_ok-key.ensures ∙ key_is key c.args.agg c.args.rows.now groups c.in_ok-groups.ensures c.loop-number.number within c.index.result.now c.index-rows-index.result c.index.ensures c.index-rows-index.is in
+    let total = total_is key c.args.agg c.args.rows.now groups c.in_ok-groups.ensures c.loop-number.number within c.index-in-loop-number.result.now c.index-in-loop-number.ensures in
+    over_step (of_key c.args.keys.now c.args.agg c.args.rows.now) keys c.loop-number.number c.in_ok-key.key c.loop-number.answer c.add_group.new.answer c.answers_add_up.ensures.more
+    within (is ∙ sym (get_or_default keys c.loop-number.number c.in_ok-key.key [] within)) c.loop-number.invariant
+    (c.in_ok-add_group.ensures c.args.agg (with_key key c.in_ok-key.key c.args.rows.now) (total ∙ ap (λ (k : RowOf). total_of c.args.agg (with_key key k c.args.rows.now)) (sym is)))
 
 pub returns : goal.returns
 returns c =
-    none_left (λ (entry : RowOf × Total). of_key c.args.keys.now c.args.agg c.args.rows.now entry.0) c.loop-key.key-iterator c.loop-key.answer _
-    (search rules) c.loop-key.invariant.whole c.in_order.ensures
+    let groups = c.in_ok-groups.groups in
+    let key = key_of c.args.keys.now in
+    let sized = c.len-number-end.ensures ∙ (groups.totals.ok.0 ∙ as_many_totals key c.args.agg c.args.rows.now groups c.in_ok-groups.ensures) in
+    c.loop-number.invariant ∙ ap (over (of_key c.args.keys.now c.args.agg c.args.rows.now)) (take_all c.loop-number.number (once_each (map key c.args.rows.now)) (subst (λ n. n ≤ c.loop-number.number) sized c.loop-number-test.false))
