@@ -10,6 +10,7 @@ use Rattle.mit_expr.specs.Values.{ValueOrFault, gives, value_in}
 use Rattle.mit_expr.specs.declared.expr.Expr.{Expr}
 use Rattle.mit_ops.specs.Answers.{at_row, over, settled}
 use Rattle.mit_ops.specs.EachRow.{given, given_all}
+use Rattle.mit_ops.specs.Endings.{finished, stopped}
 use Rattle.mit_ops.specs.Operators.{captured, legal_in, written}
 use Rattle.mit_ops.specs.declared.faults.FaultKind.TheVariants.{DecisionLimit}
 use Rattle.mit_ops.specs.declared.kinds.OpSpec.TheVariants.{Copy, MakeRow, Scalar, Write}
@@ -17,7 +18,7 @@ use Rattle.mit_ops.specs.declared.leave.Leave.TheVariants.{Branch, End, Jump}
 use Rattle.mit_ops.specs.declared.routes.Route.TheVariants.{Forward, Gather}
 use Rattle.mit_path.specs.Choice.{last_below}
 use Rattle.mit_plan.specs.Held.{History, Job, Part, Run, all_there, entered, history_of, ok, part_of, rows, run}
-use Rattle.mit_plan.specs.Meant.{ending_of, finished, first_or, meant, stopped, write_of}
+use Rattle.mit_plan.specs.Meant.{ending_of, first_or, meant, write_of}
 use Rattle.mit_plan.specs.Plans.{PlanOf, numbers_where}
 use Rattle.mit_plan.proofs.Computed.{block_of, edge, four_rows, next_place, one_row, op, scalar, start, three_rows, value_row}
 use Rattle.mit_plan.proofs.Stops.{run_stays}

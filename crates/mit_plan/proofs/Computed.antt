@@ -1,5 +1,5 @@
 -- Histories computed place by place: what the worked plans need.
-use Rattle.std.proofs.Common.{◌≡◌, ◌∙◌, ◌+◌, ℕ, suc, List, [], ◌∷◌, ◌++◌, length, map, ap, sym, refl, Some}
+use Rattle.std.proofs.Common.{◌≡◌, ◌∙◌, ℕ, suc, List, [], ◌∷◌, ◌++◌, length, map, ap, sym, refl, Some}
 use Rattle.std.specs.List.{range_with_len}
 use Rattle.mit_rows.specs.Bags.{bag_of, insert_row}
 use Rattle.mit_rows.specs.declared.value.Value.{Value}

@@ -3,10 +3,11 @@ use Rattle.std.proofs.Common.{◌≡◌, ◌∙◌, ◌<◌, ◌≤◌, ◌+◌,
 use Rattle.std.specs.Prelude.{nat_lt, count_by}
 use Rattle.std.proofs.lemmas.List.{take_all, take_at}
 use Rattle.std.proofs.lemmas.List.Sums.{sum_by_push}
+use Rattle.mit_ops.specs.Endings.{truth_in}
 use Rattle.mit_ops.specs.declared.leave.Leave.{Leave}
 use Rattle.mit_ops.specs.declared.leave.Leave.TheVariants.{Jump, Branch, End}
 use Rattle.mit_plan.specs.Valid.{by_leave, is_branch, settles}
-use Rattle.mit_plan.specs.Held.{History, Job, Part, Run, decided, decisions_before, enters, failed, follows, goes_on, held, ok, run, truth_in, void}
+use Rattle.mit_plan.specs.Held.{History, Job, Part, Run, decided, decisions_before, enters, failed, follows, goes_on, held, ok, run, void}
 use Rattle.mit_plan.specs.Plans.{PlanOf, block_at}
 use Rattle.mit_plan.specs.declared.plan.PlanBlock.{PlanBlock}
 

@@ -281,22 +281,28 @@ pub all_alike : OpLaws → (cuts : List (List BagOf)) → SameBags (map all_rows
 all_alike laws [] = refl
 all_alike laws (cut ∷ cuts) = let here = laws.sorted (all_rows cut) in let rest = all_alike laws cuts in cc
 
-pub sums : PathLaws → OpLaws → (job : Job) (history : History) (place index : ℕ) (columns : ℕ → ℕ) (bags : List BagOf) → Explained job history → 0 < job.partitions → Takes job history place index columns bags
-    → made history (pair place index) ≡ whole (op_at job.plan (op_of job.plan history.path place index)).spec bags job.files
-sums paths laws job history place index columns bags explained some takes =
+-- the answers of all partitions add up to what the operator makes of the whole bags
+pub answers_sum : PathLaws → OpLaws → (job : Job) (history : History) (place index : ℕ) (columns : ℕ → ℕ) (bags : List BagOf) → 0 < job.partitions → Takes job history place index columns bags
+    → let op = op_of job.plan history.path place index in sum_parts (answer_of job history op place columns) job.partitions ≡ whole (op_at job.plan op).spec bags job.files
+answers_sum paths laws job history place index columns bags some takes =
     let op = op_of job.plan history.path place index in
     let spec = (op_at job.plan op).spec in
-    let answer = answer_of job history op place columns in
     let inputs = inputs_there paths job history op place columns bags takes.routed takes.takes in
     let cuts = cuts_of job history op place in
     let given = bags_are job history op place columns bags inputs takes.takes in
+    laws.parts spec columns job.partitions cuts job.files some (cuts_fit job history op place columns bags inputs)
+    ∙ laws.order spec (map all_rows cuts) (map bag_sum cuts) job.files (all_alike laws cuts)
+    ∙ ap (λ (inputs : List BagOf). whole spec inputs job.files) (sym given)
+
+pub sums : PathLaws → OpLaws → (job : Job) (history : History) (place index : ℕ) (columns : ℕ → ℕ) (bags : List BagOf) → Explained job history → 0 < job.partitions → Takes job history place index columns bags
+    → made history (pair place index) ≡ whole (op_at job.plan (op_of job.plan history.path place index)).spec bags job.files
+sums paths laws job history place index columns bags explained some takes =
+    let answer = answer_of job history (op_of job.plan history.path place index) place columns in
     ap (over answer_in) (row_is paths laws job history place index columns bags explained takes)
     ∙ over_map answer_in (λ partition. part_of (answer partition)) (range_with_len 0 job.partitions)
     ∙ over_same (λ partition. answer_in (part_of (answer partition))) answer (range_with_len 0 job.partitions) (λ partition. answer_back (answer partition))
     ∙ over_range laws answer job.partitions
-    ∙ laws.parts spec columns job.partitions cuts job.files some (cuts_fit job history op place columns bags inputs)
-    ∙ laws.order spec (map all_rows cuts) (map bag_sum cuts) job.files (all_alike laws cuts)
-    ∙ ap (λ (inputs : List BagOf). whole spec inputs job.files) (sym given)
+    ∙ answers_sum paths laws job history place index columns bags some takes
 
 -- ---- bags that are ok
 
@@ -352,7 +358,7 @@ sum_in laws part from (suc many) bag nothing all =
     sum_by laws (part from) (over answer_in (map part (range_with_len (from + 1) many))) (all_there (map (λ partition. bag_in (part partition)) (range_with_len (from + 1) many))) bag
     (λ rest is. sum_in laws part (from + 1) many rest nothing is) all
 
-bag_empty : bag_of [] ≡ []
+pub bag_empty : bag_of [] ≡ []
 unfolding bag_of
 bag_empty = refl
 

@@ -52,12 +52,12 @@ in_order first (block ∷ blocks) end (suc one) (suc other) follow less below =
     in_order (first + block.count) blocks end one other follow.1 (omega (arith, less)) (omega (arith, below))
 
 -- an operator names the block and the index at which it stands
-record Names (plan : PlanOf) (block index : ℕ) : Type 0 where
-  below : (block_at plan block).first + index < length plan.ops
-  block_is : (op_at plan ((block_at plan block).first + index)).block ≡ block
-  index_is : (op_at plan ((block_at plan block).first + index)).index ≡ index
+pub record Names (plan : PlanOf) (block index : ℕ) : Type 0 where
+  pub below : (block_at plan block).first + index < length plan.ops
+  pub block_is : (op_at plan ((block_at plan block).first + index)).block ≡ block
+  pub index_is : (op_at plan ((block_at plan block).first + index)).index ≡ index
 
-names : (plan : PlanOf) (block index : ℕ) → RangesFollow plan → block < length plan.blocks → index < (block_at plan block).count → Names plan block index
+pub names : (plan : PlanOf) (block index : ℕ) → RangesFollow plan → block < length plan.blocks → index < (block_at plan block).count → Names plan block index
 names plan block index ranges below stands =
     let op = (block_at plan block).first + index in
     let range = within 0 plan.blocks (length plan.ops) block ranges.follow below in
@@ -80,7 +80,7 @@ names plan block index ranges below stands =
 
 -- ---- edges
 
-all_where : {A : Type 0} (passes : A → Bool) (P : ℕ → Type 0) (from : ℕ) (xs : List A) → ((k : ℕ) → k < length xs → ((d : A) → passes (get_or xs k d) ≡ true) → P (from + k)) → All P (numbers_where passes from xs)
+pub all_where : {A : Type 0} (passes : A → Bool) (P : ℕ → Type 0) (from : ℕ) (xs : List A) → ((k : ℕ) → k < length xs → ((d : A) → passes (get_or xs k d) ≡ true) → P (from + k)) → All P (numbers_where passes from xs)
 unfolding numbers_where
 all_where passes P from [] each = λ k d below. absurd (omega (arith, below))
 all_where {A} passes P from (x ∷ xs) each =

@@ -4,9 +4,9 @@ use Rattle.std.specs.Prelude.{ℕ, zero, suc, ◌+◌, ◌-◌, List, [], ◌∷
 use Rattle.std.specs.Prelude.{Bool, true, false, not, ◌||◌, ◌==◌, nat_lt, if◌then◌else◌, Option, Some, None, option_map, option_and_then, Ok, Err}
 use Rattle.std.specs.List.{list_all, range_with_len}
 use Rattle.mit_rows.specs.Bags.{BagOf, RowOf, bag_sum}
-use Rattle.mit_rows.specs.declared.value.Value.TheVariants.{Bool as Truth}
 use Rattle.mit_world.specs.Files.{FileMap}
 use Rattle.mit_ops.specs.Answers.{BagOrFault}
+use Rattle.mit_ops.specs.Endings.{truth_in}
 use Rattle.mit_ops.specs.Operators.{part_apply}
 use Rattle.mit_ops.specs.Routes.{senders_of, share}
 use Rattle.mit_ops.specs.declared.faults.OpFault.{OpFault}
@@ -140,11 +140,6 @@ enters job history block = entered history block (rows job history block (block_
 -- how many decisions are taken before a place: one at each earlier place whose block is left by a branch
 abbrev pub decisions_before : PlanOf → List ℕ → ℕ → ℕ
 decisions_before plan path place = count_by (λ block. is_branch (block_at plan block).leave) (take place path)
-
--- the truth value of a condition's one row
-abbrev pub truth_in : BagOf → Bool
-truth_in ((Truth truth ∷ []) ∷ []) = truth
-truth_in _ = false
 
 -- the block to which the part of a condition leads
 abbrev pub decided : Part → ℕ → ℕ → Option ℕ

@@ -5,6 +5,7 @@ use Rattle.std.specs.List.{range_with_len}
 use Rattle.mit_world.specs.Files.{FileMap}
 use Rattle.mit_shelf.specs.Printed.{Write}
 use Rattle.mit_ops.specs.Answers.{BagOrFault, over}
+use Rattle.mit_ops.specs.Endings.{Ending, finished, stopped}
 use Rattle.mit_ops.specs.Operators.{name_written}
 use Rattle.mit_ops.specs.declared.faults.FaultKind.TheVariants.{DecisionLimit}
 use Rattle.mit_ops.specs.declared.faults.ScriptFault.{ScriptFault}
@@ -14,11 +15,6 @@ use Rattle.mit_plan.specs.Held.{History, Job, Part, bag_in, decisions_before, fa
 use Rattle.mit_plan.specs.Plans.{PlanOf, block_at, op_at}
 use Rattle.mit_plan.specs.Valid.{last_of}
 use Rattle.mit_plan.specs.declared.plan.PlanBlock.{PlanBlock}
-
--- how a run ends: with its writes in order and the number of its decisions, or with its first fault
-pub data Ending : Type 0 where
-  finished : List Write → ℕ → Ending
-  stopped : ScriptFault → Ending
 
 -- a place of the path and the index of an operator in the block there
 pub record Pair : Type 0 where

@@ -77,7 +77,7 @@ pub fn more_places_law()
 
 /// Where the bags of an operator's inputs are there, its parts add up to what it makes of the whole bags: to a bag,
 /// whose parts are all ok then, or to a fault. So where a part is not ok, there is a fault. A write writes in partition 0
-/// what it writes of the whole bags.
+/// what it writes of the whole bags. A scalar is decided in partition 0: its part there is what it is of the whole bags.
 pub fn sums_law()
     ensures whole { (job : Job) (history : History) (place index : ℕ) (columns : ℕ → ℕ)
         (bags : List BagOf) → Explained job history → 0 < job.partitions
@@ -101,6 +101,11 @@ pub fn sums_law()
         → spec_at job history place index ≡ op.Write name
         → write_at job history (pair place index) ≡ write_of (name_written (op.Write name) bags)
         (part_of (whole (op.Write name) bags job.files)) }
+    ensures decides { (job : Job) (history : History) (place index : ℕ) (columns : ℕ → ℕ)
+        (bags : List BagOf) (expr : Expr) → Explained job history → 0 < job.partitions
+        → Takes job history place index columns bags
+        → spec_at job history place index ≡ op.Scalar expr
+        → held history place index 0 ≡ part_of (whole (op.Scalar expr) bags job.files) }
 {
     longer_view_law();
     last_place_law();

@@ -1,6 +1,7 @@
 use Rattle.mit_plan.proofs.Choices.{PathLaws}
 use Rattle.mit_plan.proofs.Sums.{OpLaws, bag_there, faulty, sums, there_made}
 use Rattle.mit_plan.proofs.Writes.{write_is}
+use Rattle.mit_plan.proofs.Scalars.{scalar_is}
 use Rattle.mit_plan.proofs.laws.sums_law.Goals as goal
 
 pub returns : goal.returns
@@ -22,4 +23,5 @@ returns c =
       faulty = faulty paths laws;
       made = there_made laws;
       write = write_is paths laws c.partition_law.ensures.write;
+      decides = scalar_is paths laws;
     }
