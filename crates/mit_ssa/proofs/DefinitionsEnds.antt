@@ -151,7 +151,7 @@ both_of None two is = absurd cc
 both_of (Some a) None is = absurd cc
 both_of (Some a) (Some b) is = (refl, refl)
 
-both_same : (one two was : Option ℕ) → one ≡ was → two ≡ was → cond (is_some one && is_some two) one None ≡ was
+pub both_same : (one two was : Option ℕ) → one ≡ was → two ≡ was → cond (is_some one && is_some two) one None ≡ was
 both_same one two None first second = rw first refl
 both_same one two (Some operator) first second = rw (first, second) refl
 

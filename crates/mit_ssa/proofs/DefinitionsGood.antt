@@ -171,7 +171,7 @@ pub has_more : (variables : ℕ) (look : Marks) (block number later : ℕ) (defi
 has_more variables look block number later defined more has =
     λ variable operator below is. passed_more variables look block number later operator more (has variable operator below is)
 
-listed_only : (defined : Option ℕ) (operator : ℕ) → defined ≡ Some operator → option_to_list defined ≡ operator ∷ []
+pub listed_only : (defined : Option ℕ) (operator : ℕ) → defined ≡ Some operator → option_to_list defined ≡ operator ∷ []
 listed_only defined operator is = ap (λ (d : Option ℕ). option_to_list d) is
 
 -- a block that is entered with all definitions

@@ -22,7 +22,7 @@ three true true false is = absurd cc
 three true false c is = absurd cc
 three false b c is = absurd cc
 
-both_are : (a b : Bool) → (a && b) ≡ true → (a ≡ true) × (b ≡ true)
+pub both_are : (a b : Bool) → (a && b) ≡ true → (a ≡ true) × (b ≡ true)
 both_are true b is = (refl, is)
 both_are false b is = absurd cc
 
@@ -78,10 +78,10 @@ leads_either variables look block number next phis one other same defined entry 
 
 -- ---- the join of an `if`
 
-abbrev join_test : List Weave → List Weave → Defined → Defined → ℕ → Bool
+abbrev pub join_test : List Weave → List Weave → Defined → Defined → ℕ → Bool
 join_test on_true on_false one two variable = (assigned_in on_true variable || assigned_in on_false variable) && is_some (one variable) && is_some (two variable)
 
-join_some : (variables : ℕ) (on_true on_false : List Weave) (one two : Defined) (variable : ℕ) → among (join_phis variables on_true on_false one two) variable ≡ true
+pub join_some : (variables : ℕ) (on_true on_false : List Weave) (one two : Defined) (variable : ℕ) → among (join_phis variables on_true on_false one two) variable ≡ true
     → Three (assigned_in on_true variable || assigned_in on_false variable) (is_some (one variable)) (is_some (two variable))
 join_some variables on_true on_false one two variable phi =
     three (assigned_in on_true variable || assigned_in on_false variable) (is_some (one variable)) (is_some (two variable))
@@ -96,7 +96,7 @@ leads_from_one variables look block number join on_true on_false one two entry h
     (λ variable operator below none is. (both_parts (one variable) (two variable) operator is).first)
 
 -- what both ways have without a phi is what was there before
-same_before : (variables from middle last : ℕ) (on_true on_false : List Weave) (env one two : Defined) (variable operator : ℕ)
+pub same_before : (variables from middle last : ℕ) (on_true on_false : List Weave) (env one two : Defined) (variable operator : ℕ)
     → Ends variables from middle env one (assigned_in on_true) → Ends variables middle last env two (assigned_in on_false) → variable < variables
     → among (join_phis variables on_true on_false one two) variable ≡ false → on_both one two variable ≡ Some operator → two variable ≡ Some operator
 same_before variables from middle last on_true on_false env one two variable operator first second below none is =
@@ -215,7 +215,7 @@ join_has variables look true_block false_block join number middle last on_true o
 
 -- ---- the header of a `while`
 
-abbrev loop_test : List Weave → Defined → ℕ → Bool
+abbrev pub loop_test : List Weave → Defined → ℕ → Bool
 loop_test body env variable = assigned_in body variable && is_some (env variable)
 
 pub record HeaderAt (variables : ℕ) (look : Marks) (header number : ℕ) (body : List Weave) (env turn : Defined) : Type 0 where
@@ -230,29 +230,29 @@ leads_before variables look block number header body env turn entry has =
     (λ variable below phi. ((both_are (assigned_in body variable) (is_some (env variable)) (passes (loop_test body env) _ variable phi)).1, inl refl))
     (λ variable operator below none is. is)
 
+-- what is there before a loop without a phi is there at the end of its body
+pub same_around : (variables first from last : ℕ) (body : List Weave) (env turn : Defined) (variable operator : ℕ)
+    → Ends variables from last (with_phis env first (loop_phis variables body env)) turn (assigned_in body) → variable < variables
+    → among (loop_phis variables body env) variable ≡ false → env variable ≡ Some operator → turn variable ≡ Some operator
+same_around variables first from last body env turn variable operator ends below none is =
+    let never : assigned_in body variable ≡ false =
+    by_some (assigned_in body variable) (is_some (env variable)) (some_true (env variable) operator is) (fails (loop_test body env) variables variable below none) in
+    ends.keeps variable never ∙ (phis_keep env first (loop_phis variables body env) variable none ∙ is)
+  where
+    by_some : (a b : Bool) → b ≡ true → (a && b) ≡ false → a ≡ false
+    by_some false b some is = refl
+    by_some true b some is = absurd cc
+
 pub leads_back : (variables : ℕ) (look : Marks) (block number header first from last : ℕ) (body : List Weave) (env turn : Defined)
     → Ends variables from last (with_phis env first (loop_phis variables body env)) turn (assigned_in body)
     → ((variable : ℕ) → is_some (env variable) ≡ true → is_some (with_phis env first (loop_phis variables body env) variable) ≡ true)
     → ((variable : ℕ) → (look header).entry variable ≡ either_of (loop_phis variables body env) env turn env variable)
     → Has variables look block number turn → Leads variables look block number header
 leads_back variables look block number header first from last body env turn ends stays entry has =
-    leads_either variables look block number header phis env turn env turn entry has
+    leads_either variables look block number header (loop_phis variables body env) env turn env turn entry has
     (λ variable below phi.
     (ends.stays variable (stays variable (both_are (assigned_in body variable) (is_some (env variable)) (passes (loop_test body env) _ variable phi)).1), inr refl))
-    other_has
-  where
-    phis : List ℕ
-    phis = loop_phis variables body env
-
-    by_some : (a b : Bool) → b ≡ true → (a && b) ≡ false → a ≡ false
-    by_some false b some is = refl
-    by_some true b some is = absurd cc
-
-    other_has : (variable operator : ℕ) → variable < variables → among phis variable ≡ false → env variable ≡ Some operator → turn variable ≡ Some operator
-    other_has variable operator below none is =
-        let never : assigned_in body variable ≡ false =
-        by_some (assigned_in body variable) (is_some (env variable)) (some_true (env variable) operator is) (fails (loop_test body env) variables variable below none) in
-        ends.keeps variable never ∙ (phis_keep env first phis variable none ∙ is)
+    (λ variable operator below none is. same_around variables first from last body env turn variable operator ends below none is)
 
 pub loop_phis_good : (variables : ℕ) (look : Marks) (header inner exit number from last : ℕ) (body : List Weave) (env turn : Defined)
     → Ends variables from last (with_phis env number (loop_phis variables body env)) turn (assigned_in body)

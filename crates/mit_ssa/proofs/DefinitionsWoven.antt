@@ -268,10 +268,10 @@ if_holds variables look block other join true_last false_last number middle most
     before_middle : (variable operator : ℕ) → variable < variables → env variable ≡ Some operator → operator < middle
     before_middle variable operator below is = let b = before variable operator below is in omega (arith, b, ends_one.grows)
 
-abbrev inside_of : Place → Place
+abbrev pub inside_of : Place → Place
 inside_of place = record { block = place.block + 1; operator = place.operator + 1; statement = place.statement + 1; defined = place.defined }
 
-abbrev beside_of : List Weave → Place → Place
+abbrev pub beside_of : List Weave → Place → Place
 beside_of on_true place = record {
   block = place.block + 2 + adds on_true;
   operator = (woven_all on_true (inside_of place)).operator;
@@ -461,10 +461,10 @@ while_holds variables look block inner exit inner_last number most body env turn
     before_exit : (variable operator : ℕ) → variable < variables → inside variable ≡ Some operator → operator < most
     before_exit variable operator below is = let b = before_inner variable operator below is in omega (arith, b, ends.grows)
 
-abbrev phis_at : List VarType → List Weave → Place → List ℕ
+abbrev pub phis_at : List VarType → List Weave → Place → List ℕ
 phis_at types body place = loop_phis (length types) body place.defined
 
-abbrev turn_of : List VarType → List Weave → Place → Place
+abbrev pub turn_of : List VarType → List Weave → Place → Place
 turn_of types body place = record {
   block = place.block + 2;
   operator = place.operator + length (phis_at types body place) + 1;

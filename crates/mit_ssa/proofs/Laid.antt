@@ -1,5 +1,5 @@
 -- What an `if`, a `while` and a statement add to the blocks that are being built.
-use Rattle.std.proofs.Common.{◌≡◌, ◌∙◌, ◌≤◌, ◌<◌, ◌+◌, ◌*◌, ℕ, List, [], ◌∷◌, ◌++◌, length, ap, sym, subst, refl, arith, append_assoc, Bool, ◌&&◌, ◌||◌, is_some, None}
+use Rattle.std.proofs.Common.{◌≡◌, ◌∙◌, ◌≤◌, ◌<◌, ◌+◌, ◌*◌, ℕ, List, [], ◌∷◌, ◌++◌, length, ap, sym, subst, refl, arith, append_assoc, ◌&&◌, ◌||◌, is_some, None}
 use Rattle.std.specs.List.{filter, range_with_len}
 use Rattle.std.proofs.lemmas.List.{append-nil}
 use Rattle.mit_ops.specs.declared.kinds.OpSpec.{OpSpec}
@@ -57,7 +57,7 @@ part_is count added woven leave place inside last fresh weaves =
 
 -- ---- an `if`
 
-joined_is : (variables : ℕ) (marks : List Bool) (on_true on_false : List Weave) (one one' two two' : Defined)
+joined_is : (variables : ℕ) (marks : List ℕ) (on_true on_false : List Weave) (one one' two two' : Defined)
     → ((variable : ℕ) → marked marks variable ≡ (assigned_in on_true variable || assigned_in on_false variable)) → one ≡ one' → two ≡ two'
     → joined_by variables marks one two ≡ join_phis variables on_true on_false one' two'
 joined_is variables marks on_true on_false one one' two two' same d e =
@@ -107,7 +107,7 @@ branches_are on_true on_false before one beside two first at_false woven =
     }
 
 -- the number after them
-pub if_number : (types : List VarType) (marks : List Bool) (on_true on_false : List Weave) (before one two : Builder)
+pub if_number : (types : List VarType) (marks : List ℕ) (on_true on_false : List Weave) (before one two : Builder)
     → ((variable : ℕ) → marked marks variable ≡ (assigned_in on_true variable || assigned_in on_false variable))
     → Branches on_true on_false before one two
     → two.operator + length (joined_by (length types) marks (looked one.defined.items) (looked two.defined.items)) ≡ (split types on_true on_false (place_of before)).operator
@@ -134,12 +134,6 @@ second_stops types on_true on_false before one beside stop first at_false stops 
     (beside_at on_true (place_of before)) (omega (arith, a)) first.operator (omega (arith, b)) refl) in
     stops_more (woven_all on_false (place_of beside)).operator (split types on_true on_false (place_of before)).operator stop (omega (arith, c)) stops
 
-pub inside_small : (before inside : Builder) → IsSmall before → before.block + 3 ≤ 3 * before.operator → IsAt (inside_at (place_of before)) inside → IsSmall inside
-inside_small before inside small room at_true =
-    let a = ap (λ (at : Place). at.block) at_true.there in let b = ap (λ (at : Place). at.operator) at_true.there in
-    let c = ap (λ (at : Place). at.statement) at_true.there in let d = small.operators in let e = small.statements in
-    record { operators = omega (arith, b, d); statements = omega (arith, b, c, e); blocks = omega (arith, a, b, room) }
-
 pub beside_small : (on_true : List Weave) (count_yes : ℕ) (before one beside : Builder) → AreCounted on_true count_yes
     → IsBranch on_true (inside_at (place_of before)) one
     → IsAt (record { block = one.block + 1; operator = one.operator; statement = one.statement; defined = looked before.defined.items }) beside
@@ -151,11 +145,12 @@ beside_small on_true count_yes before one beside counted first at_false room =
     let j = first.small.operators in let k = first.small.statements in
     record { operators = omega (arith, b, j); statements = omega (arith, b, c, k); blocks = omega (arith, a, b, f, g, h, i, room) }
 
-pub if_laid : (types : List VarType) (marks : List Bool) (on_true on_false : List Weave) (count_yes count_no : ℕ) (before one two new : Builder)
+pub if_laid : (types : List VarType) (marks : List ℕ) (on_true on_false : List Weave) (count_yes count_no : ℕ) (before one two new : Builder)
     → AreCounted on_true count_yes → AreCounted on_false count_no
     → ((variable : ℕ) → marked marks variable ≡ (assigned_in on_true variable || assigned_in on_false variable))
     → Branches on_true on_false before one two
-    → Joined (joined_by (length types) marks (looked one.defined.items) (looked two.defined.items)) before one two new
+    → Joined (joined_by (length types) marks (looked one.defined.items) (looked two.defined.items)) (on_both (looked one.defined.items) (looked two.defined.items))
+    (phis_of (looked one.defined.items) (looked two.defined.items) (joined_by (length types) marks (looked one.defined.items) (looked two.defined.items))) before one two new
     → IsSmall before → before.block + 3 ≤ 3 * before.operator
     → Weaves (counts on_true + counts on_false) (3 + adds on_true + adds on_false) (split types on_true on_false (place_of before)) before new
 if_laid types marks on_true on_false count_yes count_no before one two new counted counted' same parts joined small room = record {
@@ -297,28 +292,19 @@ branched_laid types operator args on_true on_false old condition new first later
     rest : Weaves (counts on_true + counts on_false) (3 + adds on_true + adds on_false) (split types on_true on_false next) condition new
     rest = subst (λ at. Weaves (counts on_true + counts on_false) (3 + adds on_true + adds on_false) (split types on_true on_false at) condition new) next_is later
 
-pub branched_stops : (types : List VarType) (operator : OpSpec) (args : List ℕ) (on_true on_false : List Weave) (old condition : Builder) (stop : PlanStop)
-    → Weaves 1 0 (done types None operator args (place_of old)) old condition
-    → Stops (split types on_true on_false (place_of condition)).operator stop
-    → Stops (branched types operator args on_true on_false (place_of old)).operator stop
-branched_stops types operator args on_true on_false old condition stop first stops =
-    subst (λ (at : Place). Stops (split types on_true on_false at).operator stop)
-    (same_place (place_of condition) (record { block = old.block; operator = old.operator + 1; statement = old.statement + 1; defined = looked old.defined.items })
-    (let a = first.block in omega (arith, a)) first.operator first.statement first.defined) stops
-
 -- ---- a `while`
 
-turned_is : (variables : ℕ) (marks : List Bool) (body : List Weave) (defined : Defined)
+pub turned_is : (variables : ℕ) (marks : List ℕ) (body : List Weave) (defined : Defined)
     → ((variable : ℕ) → marked marks variable ≡ assigned_in body variable) → turned_by variables marks defined ≡ loop_phis variables body defined
 turned_is variables marks body defined same = λ i. filter (λ variable. same variable i && is_some (defined variable)) (range_with_len 0 variables)
 
-pub while_laid : (types : List VarType) (operator : OpSpec) (args : List ℕ) (body : List Weave) (count : ℕ) (marks : List Bool) (phis : List ℕ) (old inside last new : Builder)
+pub while_laid : (types : List VarType) (operator : OpSpec) (args : List ℕ) (body : List Weave) (count : ℕ) (marks : List ℕ) (phis : List ℕ) (old inside last new : Builder)
     → AreCounted body count
     → ((variable : ℕ) → marked marks variable ≡ assigned_in body variable)
     → phis ≡ turned_by (length types) marks (looked old.defined.items)
     → IsAt (in_loop phis (place_of old)) inside
     → Weaves (counts body) (adds body) (woven_all body (place_of inside)) inside last
-    → Turned types operator args phis old last new
+    → Turned types operator args phis (looked old.defined.items) (phis_of (looked old.defined.items) (looked last.defined.items) phis) old last new
     → IsSmall old
     → Weaves (1 + counts body) (3 + adds body) (looped types operator args body (place_of old)) old new
 while_laid types operator args body count marks phis old inside last new counted same are fresh weaves turned small = record {
@@ -422,7 +408,7 @@ while_laid types operator args body count marks phis old inside last new counted
 
 -- ---- where a `while` stops
 
-pub enter_stops : (types : List VarType) (operator : OpSpec) (args : List ℕ) (body : List Weave) (count : ℕ) (marks : List Bool) (phis : List ℕ) (old : Builder) (stop : PlanStop)
+pub enter_stops : (types : List VarType) (operator : OpSpec) (args : List ℕ) (body : List Weave) (count : ℕ) (marks : List ℕ) (phis : List ℕ) (old : Builder) (stop : PlanStop)
     → AreCounted body count → ((variable : ℕ) → marked marks variable ≡ assigned_in body variable)
     → phis ≡ turned_by (length types) marks (looked old.defined.items) → Stops (old.operator + length phis + 1) stop
     → Stops (looped types operator args body (place_of old)).operator stop
@@ -431,7 +417,7 @@ enter_stops types operator args body count marks phis old stop counted same are 
     let b = counted.grows (in_loop (loop_phis (length types) body (looked old.defined.items)) (place_of old)) in
     stops_more (old.operator + length phis + 1) (looped types operator args body (place_of old)).operator stop (omega (arith, a, b)) stops
 
-pub turn_stops : (types : List VarType) (operator : OpSpec) (args : List ℕ) (body : List Weave) (marks : List Bool) (phis : List ℕ) (old inside : Builder) (stop : PlanStop)
+pub turn_stops : (types : List VarType) (operator : OpSpec) (args : List ℕ) (body : List Weave) (marks : List ℕ) (phis : List ℕ) (old inside : Builder) (stop : PlanStop)
     → ((variable : ℕ) → marked marks variable ≡ assigned_in body variable)
     → phis ≡ turned_by (length types) marks (looked old.defined.items) → IsAt (in_loop phis (place_of old)) inside
     → Stops (woven_all body (place_of inside)).operator stop → Stops (looped types operator args body (place_of old)).operator stop

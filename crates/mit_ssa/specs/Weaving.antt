@@ -1,23 +1,62 @@
 -- Devices of the proofs: nobody has to believe them. What stands for the functions and places of the definitions while a script is woven.
-use Rattle.std.specs.Prelude.{◌≡◌, ◌<◌, ◌≤◌, ⊤, ℕ, ◌+◌, ◌*◌, List, [], ◌∷◌, ◌++◌, length, Bool, false, ◌&&◌, Option, None, is_some, unwrap_or, slice_get}
-use Rattle.std.specs.List.{filter, range_with_len}
+use Rattle.std.specs.Prelude.{◌≡◌, ◌<◌, ◌≤◌, ⊤, ℕ, suc, ◌+◌, ◌*◌, List, [], ◌∷◌, ◌++◌, length, map, Bool, nat_lt, ◌==◌, ◌&&◌, if◌then◌else◌, Option, None, is_some, unwrap_or, slice_get}
+use Rattle.std.specs.List.{filter, list_any, range_with_len}
 use Rattle.mit_ops.specs.declared.leave.Leave.{Leave}
 use Rattle.mit_ops.specs.declared.leave.Leave.TheVariants.{Jump, Branch}
 use Rattle.mit_ops.specs.declared.kinds.OpSpec.{OpSpec}
 use Rattle.mit_ops.specs.declared.types.VarType.{VarType}
 use Rattle.mit_plan.specs.declared.plan.TheConstants.{MAX_OPS}
-use Rattle.mit_ssa.specs.Woven.{Defined, Place, Stretch, Weave, Woven, adds, all_of, counts, join_phis, left, on_both, operator_of, phis_of, preceded, with_phis, woven_all}
+use Rattle.mit_ssa.specs.Woven.{Defined, Place, Stretch, Weave, Woven, adds, all_of, counts, join_phis, left, on_both, operator_of, phi_of, phis_of, preceded, with_phis, woven_all}
 use Rattle.mit_ssa.specs.declared.block.Block.{Block}
+use Rattle.mit_ssa.specs.declared.block.Operator.{Operator}
 use Rattle.mit_ssa.specs.declared.build.Builder.{Builder}
+use Rattle.mit_ssa.specs.declared.defined.Definition.{Definition}
 use Rattle.mit_ssa.specs.declared.stop.PlanStop.{PlanStop}
 use Rattle.mit_ssa.specs.declared.stop.PlanStop.TheVariants.{TooLarge, NoMemory}
 
--- lists that stand for functions of variables
+-- a list that stands for a function of variables
 abbrev pub looked : List (Option ℕ) → Defined
 looked defined variable = unwrap_or (slice_get defined variable) None
 
-abbrev pub marked : List Bool → ℕ → Bool
-marked marks variable = unwrap_or (slice_get marks variable) false
+-- a variable is one of these
+abbrev pub marked : List ℕ → ℕ → Bool
+marked marks variable = list_any (λ mark. variable == mark) marks
+
+-- these numbers rise, from this one on
+unfoldable pub Rise : ℕ → List ℕ → Type 0
+Rise from [] = ⊤
+Rise from (first ∷ more) = (from ≤ first) × Rise (suc first) more
+
+-- what each of these variables is
+abbrev pub kept_of : Defined → List ℕ → List Definition
+kept_of defined variables = map (λ variable. record { variable = variable; value = defined variable }) variables
+
+abbrev pub variables_of : List Definition → List ℕ
+variables_of kept = map (λ one. one.variable) kept
+
+-- a variable is this from here on
+abbrev pub putting : Defined → ℕ → Option ℕ → Defined
+putting defined variable value = λ other. if other == variable then value else defined other
+
+-- each variable is what was kept
+unfoldable pub put_in : Defined → List Definition → Defined
+put_in defined [] = defined
+put_in defined (first ∷ more) = put_in (putting defined first.variable first.value) more
+
+-- what is defined on both ways, by what the variables are on the one
+abbrev pub both_kept : List Definition → Defined → List Definition
+both_kept ones other =
+    map (λ one. record { variable = one.variable; value = if is_some one.value && is_some (other one.variable) then one.value else None }) ones
+
+-- which of these have phis in a join and in a loop, and what the phis are
+abbrev pub join_kept : ℕ → List Definition → Defined → List Definition
+join_kept variables ones other = filter (λ one. nat_lt one.variable variables && is_some one.value && is_some (other one.variable)) ones
+
+abbrev pub loop_kept : ℕ → List Definition → List Definition
+loop_kept variables olds = filter (λ old. nat_lt old.variable variables && is_some old.value) olds
+
+abbrev pub kept_phis : List Definition → Defined → List Operator
+kept_phis phis other = map (λ one. phi_of (λ _. one.value) other one.variable) phis
 
 -- where a builder is
 abbrev pub place_of : Builder → Place
@@ -26,6 +65,17 @@ place_of builder = record {
   operator = builder.operator;
   statement = builder.statement;
   defined = looked builder.defined.items;
+}
+
+-- a builder, where what another one has is defined
+abbrev pub with_table : Builder → Builder → Builder
+with_table builder other = record {
+  blocks = builder.blocks;
+  operators = builder.operators;
+  defined = other.defined;
+  block = builder.block;
+  operator = builder.operator;
+  statement = builder.statement;
 }
 
 -- the blocks of a builder, where the current one goes on so
@@ -65,11 +115,11 @@ abbrev pub Stops : ℕ → PlanStop → Type 0
 Stops operators = IfLarge (MAX_OPS < operators)
 
 -- the phis of a join and of a loop, by which variables are marked
-abbrev pub joined_by : ℕ → List Bool → Defined → Defined → List ℕ
+abbrev pub joined_by : ℕ → List ℕ → Defined → Defined → List ℕ
 joined_by variables marks one other =
     filter (λ variable. marked marks variable && is_some (one variable) && is_some (other variable)) (range_with_len 0 variables)
 
-abbrev pub turned_by : ℕ → List Bool → Defined → List ℕ
+abbrev pub turned_by : ℕ → List ℕ → Defined → List ℕ
 turned_by variables marks defined = filter (λ variable. marked marks variable && is_some (defined variable)) (range_with_len 0 variables)
 
 -- an `if` after its condition
@@ -109,13 +159,13 @@ pub record IsBranch (weaves : List Weave) (begin : Place) (last : Builder) : Typ
   pub small : IsSmall last
 
 -- two branches are joined, after the block with the condition
-pub record Joined (phis : List ℕ) (before one two new : Builder) : Type 0 where
+pub record Joined (phis : List ℕ) (both : Defined) (joins : List Operator) (before one two new : Builder) : Type 0 where
   pub block : new.block ≡ two.block + 1
   pub operator : new.operator ≡ two.operator + length phis
   pub few : new.operator ≤ MAX_OPS
   pub statement : new.statement ≡ two.statement
-  pub defined : looked new.defined.items ≡ with_phis (on_both (looked one.defined.items) (looked two.defined.items)) two.operator phis
-  pub operators : new.operators.items ≡ phis_of (looked one.defined.items) (looked two.defined.items) phis
+  pub defined : looked new.defined.items ≡ with_phis both two.operator phis
+  pub operators : new.operators.items ≡ joins
   pub blocks : new.blocks.items
       ≡ closed (Branch (before.block + 1) (one.block + 1)) before ++ (closed (Jump (two.block + 1)) one ++ closed (Jump (two.block + 1)) two)
 
@@ -129,16 +179,15 @@ in_loop phis place = record {
 }
 
 -- a loop is closed after its body
-pub record Turned (types : List VarType) (operator : OpSpec) (args phis : List ℕ) (old turn new : Builder) : Type 0 where
+pub record Turned (types : List VarType) (operator : OpSpec) (args variables : List ℕ) (before : Defined) (phis : List Operator) (old turn new : Builder) : Type 0 where
   pub block : new.block ≡ turn.block + 1
   pub number : new.operator ≡ turn.operator
   pub statement : new.statement ≡ turn.statement
-  pub defined : looked new.defined.items ≡ with_phis (looked old.defined.items) old.operator phis
+  pub defined : looked new.defined.items ≡ with_phis before old.operator variables
   pub operators : new.operators.items ≡ []
   pub blocks : new.blocks.items
       ≡ closed (Jump (old.block + 1)) old
       ++ (record {
-        operators = phis_of (looked old.defined.items) (looked turn.defined.items) phis
-            ++ operator_of types (with_phis (looked old.defined.items) old.operator phis) old.statement operator args ∷ [];
+        operators = phis ++ operator_of types (with_phis before old.operator variables) old.statement operator args ∷ [];
         leave = Branch (old.block + 2) (turn.block + 1);
       } ∷ closed (Jump (old.block + 1)) turn)

@@ -3,11 +3,11 @@ ghost use Rattle.std.specs.Prelude.{◌≡◌, ◌<◌, ◌≤◌, ◌+◌, [], 
 ghost use Rattle.mit_ops.specs.declared.leave.Leave.TheVariants.{Branch, Jump};
 ghost use Rattle.mit_plan.specs.declared.plan.TheConstants.{MAX_OPS};
 ghost use Rattle.mit_ssa.specs.Weaving as spec;
-ghost use Rattle.mit_ssa.specs.Weaving.{IsAt, IsSmall, Joined, Stops, Turned, Weaves, in_loop, inside_at, joined_by, looked, place_of};
-ghost use Rattle.mit_ssa.specs.Woven.{done, operator_of as operator_for, phis_of as phis_for};
+ghost use Rattle.mit_ssa.specs.Weaving.{IsAt, IsSmall, Joined, Stops, Turned, Weaves, both_kept, in_loop, join_kept, kept_phis, looked, place_of, put_in, variables_of, with_table};
+ghost use Rattle.mit_ssa.specs.Woven.{done};
 
 use crate::block::{Block, Listing, Operator};
-use crate::defined::{define_all, define_maybe, on_both};
+use crate::defined::{Definition, define_all, define_maybe, on_both, put_all};
 use crate::operators::operator_of;
 use crate::phis::{join_phis, phis_of};
 use crate::stop::PlanStop;
@@ -94,19 +94,28 @@ impl Builder {
         }
     }
 
-    /// The beginning of the true branch of an `if`, after its condition.
-    pub(crate) fn inside(&self, alloc: Global) -> Result<Builder, AllocError>
-        requires { IsSmall self.now }
-        ensures { IfOk result (IsAt (inside_at (place_of self.now))) }
+    /// It with nothing defined, and what was defined.
+    pub(crate) fn parted(self, alloc: Global) -> (Builder, Vec<Option<u32>>)
+        ensures rest { result.0 ≡ with_table self result.0 }
+        ensures table { result.1.items ≡ self.defined.items }
     {
-        let defined = Vec::from_slice(alloc, &self.defined)?;
-        Ok(Builder::start(
-            alloc,
-            self.block + 1,
-            self.operator,
-            self.statement,
+        let Builder {
+            blocks,
+            operators,
             defined,
-        ))
+            block,
+            operator,
+            statement,
+        } = self;
+        let rest = Builder {
+            blocks,
+            operators,
+            defined: Vec::new(alloc),
+            block,
+            operator,
+            statement,
+        };
+        (rest, defined)
     }
 
     /// Its blocks, where the current one is left so.
@@ -158,28 +167,29 @@ impl Builder {
         })
     }
 
-    /// Ends an `if` by its join, from its two branches; these are the marks of the variables that they assign.
+    /// Ends an `if` by its join, from its two branches; these are what the variables that they assign are at the end of the first.
     pub(crate) fn join(
         self,
         alloc: Global,
         variables: usize,
-        marks: &[bool],
+        ones: &[Definition],
         first: Builder,
         second: Builder,
     ) -> Result<Builder, PlanStop>
         requires small { IsSmall self }
         requires first { IsSmall first }
         requires second { IsSmall second }
-        ensures joined { IfOk result
-            (Joined (joined_by variables marks.now (looked first.defined.items) (looked second.defined.items)) self first second) }
-        ensures large { IfErr result (Stops (second.operator
-            + length (joined_by variables marks.now (looked first.defined.items) (looked second.defined.items)))) }
+        ensures joined { IfOk result (Joined (variables_of (join_kept variables ones.now (looked second.defined.items)))
+            (put_in (looked second.defined.items) (both_kept ones.now (looked second.defined.items)))
+            (kept_phis (join_kept variables ones.now (looked second.defined.items)) (looked second.defined.items)) self first second) }
+        ensures large { IfErr result (Stops (second.operator + length (join_kept variables ones.now (looked second.defined.items)))) }
     {
-        let phis = join_phis(alloc, variables, marks, &first.defined, &second.defined)?;
+        let phis = join_phis(alloc, variables, ones, &second.defined)?;
         let operator = after_more(second.operator, phis.len())?;
-        let operators = phis_of(alloc, &first.defined, &second.defined, &phis)?;
-        let both = on_both(alloc, &first.defined, &second.defined)?;
-        let defined = define_all(both, second.operator, &phis)?;
+        let operators = phis_of(alloc, &phis, &second.defined)?;
+        let both = on_both(alloc, ones, &second.defined)?;
+        let (second, defined) = second.parted(alloc);
+        let defined = define_all(put_all(defined, &both)?, second.operator, &phis)?;
         let block = second.block + 1;
         let statement = second.statement;
         Ok(Builder {
@@ -192,38 +202,44 @@ impl Builder {
         })
     }
 
-    /// The beginning of a loop's body, where these variables have phis.
-    pub(crate) fn enter(&self, alloc: Global, phis: &[u32]) -> Result<Builder, PlanStop>
+    /// The beginning of a loop's body, where this is defined before and these variables have phis.
+    pub(crate) fn enter(
+        &self,
+        alloc: Global,
+        defined: Vec<Option<u32>>,
+        phis: &[Definition],
+    ) -> Result<Builder, PlanStop>
         requires small { IsSmall self.now }
-        ensures inside { IfOk result (IsAt (in_loop phis.now (place_of self.now))) }
+        ensures inside { IfOk result (IsAt (in_loop (variables_of phis.now) (record { block = self.now.block; operator = self.now.operator; statement = self.now.statement; defined = looked defined.items }))) }
         ensures few { IfOk result (λ inside. inside.operator ≤ MAX_OPS) }
         ensures large { IfErr result (Stops (self.now.operator + length phis.now + 1)) }
     {
         let condition = after_more(self.operator, phis.len())?;
         let next = after_more(condition, 1)?;
-        let before = Vec::from_slice(alloc, &self.defined)?;
-        let defined = define_all(before, self.operator, phis)?;
+        let defined = define_all(defined, self.operator, phis)?;
         Ok(Builder::start(alloc, self.block + 2, next, self.statement + 1, defined))
     }
 
-    /// Ends a loop, from its body and the variables that have phis.
+    /// Ends a loop, from its body, what the variables that it assigns were before, and those that have phis.
     pub(crate) fn turn(
         self,
         alloc: Global,
         types: &[VarType],
         body: Builder,
-        phis: &[u32],
+        olds: &[Definition],
+        phis: &[Definition],
         op: &OpSpec,
         args: &[u32],
     ) -> Result<Builder, AllocError>
         requires small { IsSmall self }
         requires body { IsSmall body }
         requires phis { self.operator + length phis.now ≤ MAX_OPS }
-        ensures { IfOk result (Turned types.now op.now args.now phis.now self body) }
+        ensures { IfOk result (Turned types.now op.now args.now (variables_of phis.now) (put_in (looked body.defined.items) olds.now)
+            (kept_phis phis.now (looked body.defined.items)) self body) }
     {
-        let before = Vec::from_slice(alloc, &self.defined)?;
-        let defined = define_all(before, self.operator, phis)?;
-        let mut operators = phis_of(alloc, &self.defined, &body.defined, phis)?;
+        let mut operators = phis_of(alloc, phis, &body.defined)?;
+        let (body, defined) = body.parted(alloc);
+        let defined = define_all(put_all(defined, olds)?, self.operator, phis)?;
         operators.push(operator_of(alloc, types, &defined, self.statement, op, args)?)?;
         let (block, operator, statement) = (body.block + 1, body.operator, body.statement);
         Ok(Builder {

@@ -1,41 +1,26 @@
 //! Which variables statements assign.
-ghost use Rattle.std.specs.Prelude.{◌≡◌, ℕ, ◌||◌, List, map, IfOk, OnOk, ◌==◌};
+ghost use Rattle.std.specs.Prelude.{◌≡◌, ℕ, ◌||◌, List, map, IfOk};
 ghost use Rattle.mit_ops.specs.declared.types.VarType.{VarType};
-ghost use Rattle.mit_ssa.specs.Weaving.{marked};
+ghost use Rattle.mit_ssa.specs.Weaving.{Rise, marked};
 ghost use Rattle.mit_ssa.specs.Woven.{assigned_in, weave_of};
 
 use mit_script::Stmt;
 use std::alloc::AllocError;
 
-/// Whether a variable is marked.
-pub(crate) fn is_marked(marks: &[bool], variable: u32) -> bool
-    ensures { result ≡ marked marks.now variable }
+/// Marked variables in rising order, each once.
+pub(crate) fn in_order(marks: Vec<u32>) -> Vec<u32>
+    ensures rise { Rise 0 result.items }
+    ensures same { (variable : ℕ) → marked result.items variable ≡ marked marks.items variable }
 {
-    match marks.get(variable as usize) {
-        Some(is) => *is,
-        None => false,
-    }
-}
-
-/// Marks a variable.
-fn mark(marks: &mut Vec<bool>, variable: u32) -> Result<(), AllocError>
-    ensures { (other : ℕ) → OnOk result (marked marks.new.items other ≡ (marked marks.old.items other || other == variable)) }
-{
-    let place = variable as usize;
-    for _gap in marks.len()..place {
-        marks.push(false)?;
-    }
-    if place < marks.len() {
-        marks[place] = true;
-    } else {
-        marks.push(true)?;
-    }
-    Ok(())
+    let mut marks = marks;
+    marks.sort_unstable();
+    marks.dedup();
+    marks
 }
 
 /// Marks what the statements of a block assign.
 #[cycle(mark_all)]
-pub(crate) fn mark_all(marks: Vec<bool>, block: &[Stmt]) -> Result<Vec<bool>, AllocError>
+pub(crate) fn mark_all(marks: Vec<u32>, block: &[Stmt]) -> Result<Vec<u32>, AllocError>
     ensures { IfOk result (λ after. (types : List VarType) (variable : ℕ) →
         marked after.items variable ≡ (marked marks.items variable || assigned_in (map (weave_of types) block.now) variable)) }
 {
@@ -48,14 +33,14 @@ pub(crate) fn mark_all(marks: Vec<bool>, block: &[Stmt]) -> Result<Vec<bool>, Al
 
 /// Marks what a statement assigns.
 #[cycle(mark_all)]
-fn mark_one(marks: Vec<bool>, stmt: &Stmt) -> Result<Vec<bool>, AllocError>
+fn mark_one(marks: Vec<u32>, stmt: &Stmt) -> Result<Vec<u32>, AllocError>
     ensures { IfOk result (λ after. (types : List VarType) (variable : ℕ) →
         marked after.items variable ≡ (marked marks.items variable || (weave_of types stmt.now).assigns variable)) }
 {
     match stmt {
         Stmt::Assign { target, .. } => {
             let mut after = marks;
-            mark(&mut after, *target)?;
+            after.push(*target)?;
             Ok(after)
         }
         Stmt::Write { .. } => Ok(marks),

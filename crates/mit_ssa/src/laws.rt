@@ -1,5 +1,6 @@
 //! Laws of the plans of scripts. Each is the contract of a function that does nothing.
 ghost use Rattle.std.specs.Prelude.{◌≡◌, ◌≤◌, List, Ok, length};
+ghost use Rattle.mit_cfg.specs.Blocks.{blocks_of};
 ghost use Rattle.mit_ops.specs.declared.types.VarType.{VarType};
 ghost use Rattle.mit_plan.specs.Valid.{BlocksReached, BranchesDecide, EdgesGoUp, EdgesInOrder, HasTypes, InputsHaveEdges};
 ghost use Rattle.mit_plan.specs.Valid.{IsValid, IsWithinLimits, JumpsEnd, LeavesNameBlocks, OperandsApart, PhisCopy, PlacesToChoose};
@@ -9,6 +10,7 @@ ghost use Rattle.mit_script.specs.Accepted.{checked};
 ghost use Rattle.mit_script.specs.Trees.{IsFormed};
 ghost use Rattle.mit_script.specs.declared.tree.Script.{Script};
 ghost use Rattle.mit_ssa.specs.PlanFor.{IsLarge, plan_for};
+ghost use Rattle.mit_ssa.specs.Reaching.{Reaches, Reaching};
 
 /// What the plan of an accepted script keeps: its blocks, operators and edges are numbered as they should be and name
 /// each other, each block is reached and left, and each operator has its inputs. If its operators and edges are few
@@ -47,6 +49,13 @@ pub fn types_law()
         → checked script ≡ Ok types → HasTypes (plan_for script types) }
     ensures routes { (script : Script) (types : List VarType) → IsFormed script
         → checked script ≡ Ok types → RoutesFit (plan_for script types) }
+{}
+
+/// The blocks of the plan of an accepted script are those of the script with phis in front, and wherever a path comes to an
+/// operator, each of its inputs takes from the operator that defined its variable last.
+pub fn reaching_law()
+    ensures { (script : Script) (types : List VarType) → IsFormed script → checked script ≡ Ok types
+        → (known : Reaching) × Reaches (plan_for script types) (blocks_of script) known }
 {}
 
 /// The plan of an accepted script is valid, where it is not too large.

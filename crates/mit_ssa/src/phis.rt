@@ -1,77 +1,57 @@
 //! Which variables have phis, and what these are.
-ghost use Rattle.std.specs.Prelude.{◌≡◌, ◌&&◌, map, is_some, IfOk};
-ghost use Rattle.std.specs.List.{filter, range_with_len};
-ghost use Rattle.mit_ssa.specs.Weaving.{looked, marked};
+ghost use Rattle.std.specs.Prelude.{◌≡◌, IfOk};
+ghost use Rattle.mit_ssa.specs.Weaving.{join_kept, kept_phis, loop_kept, looked};
 ghost use Rattle.mit_ssa.specs.Woven as spec;
 
 use crate::block::{Listing, Operator, Source};
-use crate::changed::is_marked;
-use crate::defined::{definition_of, look};
-use crate::stop::PlanStop;
+use crate::defined::{Definition, definition_of, look};
 use mit_ops::{OpSpec, Route};
 use std::alloc::{AllocError, Global};
 
-/// The variables that have phis after an `if`: those that are marked and that are defined at the end of both branches.
-///
-/// More than 4,294,967,295 variables are answered as out of memory.
+/// Those of these variables that have phis after an `if`: they are defined at the end of both branches.
 pub(crate) fn join_phis(
     alloc: Global,
     variables: usize,
-    marks: &[bool],
-    one: &[Option<u32>],
+    ones: &[Definition],
     other: &[Option<u32>],
-) -> Result<Vec<u32>, AllocError>
-    ensures { IfOk result (λ phis. phis.items ≡ filter (λ variable. marked marks.now variable
-        && is_some (looked one.now variable) && is_some (looked other.now variable)) (range_with_len 0 variables)) }
+) -> Result<Vec<Definition>, AllocError>
+    ensures { IfOk result (λ phis. phis.items ≡ join_kept variables ones.now (looked other.now)) }
 {
-    if variables > u32::MAX as usize {
-        return Err(AllocError);
-    }
-    (0..variables as u32)
-        .filter(|variable| {
-            is_marked(marks, *variable)
-                && look(one, *variable).is_some()
-                && look(other, *variable).is_some()
+    ones.iter()
+        .copied()
+        .filter(|one| {
+            (one.variable as usize) < variables
+                && one.value.is_some()
+                && look(other, one.variable).is_some()
         })
         .collect(alloc)
 }
 
-/// The variables that have phis in a loop: those that are marked and that are defined before.
-///
-/// More than 4,294,967,295 variables are answered as out of memory.
+/// Those of these variables that have phis in a loop: they are defined before.
 pub(crate) fn loop_phis(
     alloc: Global,
     variables: usize,
-    marks: &[bool],
-    defined: &[Option<u32>],
-) -> Result<Vec<u32>, AllocError>
-    ensures { IfOk result (λ phis. phis.items ≡ filter (λ variable. marked marks.now variable
-        && is_some (looked defined.now variable)) (range_with_len 0 variables)) }
+    olds: &[Definition],
+) -> Result<Vec<Definition>, AllocError>
+    ensures { IfOk result (λ phis. phis.items ≡ loop_kept variables olds.now) }
 {
-    if variables > u32::MAX as usize {
-        return Err(AllocError);
-    }
-    (0..variables as u32)
-        .filter(|variable| is_marked(marks, *variable) && look(defined, *variable).is_some())
+    olds.iter()
+        .copied()
+        .filter(|old| (old.variable as usize) < variables && old.value.is_some())
         .collect(alloc)
 }
 
-/// The phi of a variable that is defined so on the one way and so on the other.
-fn phi_of(
-    alloc: Global,
-    one: &[Option<u32>],
-    other: &[Option<u32>],
-    variable: u32,
-) -> Result<Operator, AllocError>
-    ensures { IfOk result (λ phi. phi ≡ spec.phi_of (looked one.now) (looked other.now) variable) }
+/// The phi of a variable that is this on the one way and so defined on the other.
+fn phi_of(alloc: Global, one: Definition, other: &[Option<u32>]) -> Result<Operator, AllocError>
+    ensures { IfOk result (λ phi. phi ≡ spec.phi_of (λ _. one.value) (looked other.now) one.variable) }
 {
     let operands = vec![in alloc;
         Source {
-            from: definition_of(one, variable),
+            from: one.value.unwrap_or(0),
             route: Route::Forward,
         },
         Source {
-            from: definition_of(other, variable),
+            from: definition_of(other, one.variable),
             route: Route::Forward,
         },
     ]?;
@@ -83,18 +63,17 @@ fn phi_of(
     })
 }
 
-/// The phis of these variables.
+/// The phis of variables that are this on the one way.
 pub(crate) fn phis_of(
     alloc: Global,
-    one: &[Option<u32>],
+    ones: &[Definition],
     other: &[Option<u32>],
-    variables: &[u32],
 ) -> Result<Vec<Operator>, AllocError>
-    ensures { IfOk result (λ phis. phis.items ≡ spec.phis_of (looked one.now) (looked other.now) variables.now) }
+    ensures { IfOk result (λ phis. phis.items ≡ kept_phis ones.now (looked other.now)) }
 {
-    let mut phis = Vec::with_capacity(alloc, variables.len())?;
-    for variable in variables {
-        phis.push(phi_of(alloc, one, other, *variable)?)?;
+    let mut phis = Vec::with_capacity(alloc, ones.len())?;
+    for one in ones {
+        phis.push(phi_of(alloc, *one, other)?)?;
     }
     Ok(phis)
 }

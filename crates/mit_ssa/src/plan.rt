@@ -17,8 +17,8 @@ use std::alloc::Global;
 ///
 /// Each statement is an operator, and each of its arguments an edge from the operator that defines it. In the join of an
 /// `if` a variable has a phi that a branch assigns and that is defined at the end of both; in the header of a `while` one
-/// that the body assigns and that is defined before. More than 4,294,967,295 variables, or 255 columns of one, are answered
-/// as out of memory.
+/// that the body assigns and that is defined before. More than 255 columns of one variable are answered as
+/// out of memory.
 pub fn plan_of(alloc: Global, typed: &Typed) -> Result<Plan, PlanStop>
     ensures plan { IfOk result (λ plan. plan ≡ plan_for typed.now.script typed.now.types) }
     ensures valid { IfOk result IsValid }

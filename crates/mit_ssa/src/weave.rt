@@ -1,10 +1,11 @@
 //! The blocks of a script, with their operators.
 ghost use Rattle.std.specs.Prelude.{◌≡◌, ◌≤◌, ◌+◌, ◌*◌, IfErr, IfOk, map};
-ghost use Rattle.mit_ssa.specs.Weaving.{IsBranch, IsSmall, Stops, Weaves, inside_at, place_of, split};
+ghost use Rattle.mit_ssa.specs.Weaving.{IsSmall, Stops, Weaves, place_of, split};
 ghost use Rattle.mit_ssa.specs.Woven.{adds, counts, looped, weave_of, woven_all};
 
 use crate::build::Builder;
-use crate::changed::mark_all;
+use crate::changed::{in_order, mark_all};
+use crate::defined::{keep, put_all};
 use crate::phis::loop_phis;
 use crate::stop::PlanStop;
 use mit_ops::{OpSpec, VarType};
@@ -31,36 +32,45 @@ pub(crate) fn weave_all(
     Ok(built)
 }
 
-/// Adds the false branch of an `if` and its join, from its condition and its true branch.
+/// Adds the branches of an `if` and its join, after its condition.
 #[cycle(weave_all)]
-fn weave_other(
+fn weave_if(
     alloc: Global,
     types: &[VarType],
     before: Builder,
-    first: Builder,
-    no: &[Stmt],
     yes: &[Stmt],
+    no: &[Stmt],
 ) -> Result<Builder, PlanStop>
     requires small { IsSmall before }
     requires room { before.block + 3 ≤ 3 * before.operator }
-    requires first { IsBranch (map (weave_of types.now) yes.now) (inside_at (place_of before)) first }
     ensures woven { IfOk result (Weaves (counts (map (weave_of types.now) yes.now) + counts (map (weave_of types.now) no.now))
         (3 + adds (map (weave_of types.now) yes.now) + adds (map (weave_of types.now) no.now))
         (split types.now (map (weave_of types.now) yes.now) (map (weave_of types.now) no.now) (place_of before)) before) }
     ensures large { IfErr result (Stops
         (split types.now (map (weave_of types.now) yes.now) (map (weave_of types.now) no.now) (place_of before)).operator) }
 {
-    let defined = Vec::from_slice(alloc, &before.defined)?;
+    let assigned = in_order(mark_all(mark_all(Vec::new(alloc), yes)?, no)?);
+    let olds = keep(alloc, &before.defined, &assigned)?;
+    let (outside, defined) = before.parted(alloc);
+    let inside = Builder::start(
+        alloc,
+        outside.block + 1,
+        outside.operator,
+        outside.statement,
+        defined,
+    );
+    let last = weave_all(alloc, types, inside, yes)?;
+    let ones = keep(alloc, &last.defined, &assigned)?;
+    let (first, defined) = last.parted(alloc);
     let beside = Builder::start(
         alloc,
         first.block + 1,
         first.operator,
         first.statement,
-        defined,
+        put_all(defined, &olds)?,
     );
     let second = weave_all(alloc, types, beside, no)?;
-    let marks = mark_all(mark_all(Vec::new(alloc), yes)?, no)?;
-    before.join(alloc, types.len(), &marks, first, second)
+    outside.join(alloc, types.len(), &ones, first, second)
 }
 
 /// Adds a `while`.
@@ -78,11 +88,13 @@ fn weave_while(
         (looped types.now op.now args.now (map (weave_of types.now) body.now) (place_of before)) before) }
     ensures large { IfErr result (Stops (looped types.now op.now args.now (map (weave_of types.now) body.now) (place_of before)).operator) }
 {
-    let marks = mark_all(Vec::new(alloc), body)?;
-    let phis = loop_phis(alloc, types.len(), &marks, &before.defined)?;
-    let inside = before.enter(alloc, &phis)?;
+    let assigned = in_order(mark_all(Vec::new(alloc), body)?);
+    let olds = keep(alloc, &before.defined, &assigned)?;
+    let phis = loop_phis(alloc, types.len(), &olds)?;
+    let (outside, defined) = before.parted(alloc);
+    let inside = outside.enter(alloc, defined, &phis)?;
     let last = weave_all(alloc, types, inside, body)?;
-    Ok(before.turn(alloc, types, last, &phis, op, args)?)
+    Ok(outside.turn(alloc, types, last, &olds, &phis, op, args)?)
 }
 
 /// Adds a statement.
@@ -105,16 +117,7 @@ fn weave_one(
         Stmt::Write { op, args } => before.add(alloc, types, None, op, args.as_slice()),
         Stmt::If { op, args, yes, no } => {
             let condition = before.add(alloc, types, None, op, args.as_slice())?;
-            let inside = condition.inside(alloc)?;
-            let first = weave_all(alloc, types, inside, yes.as_slice())?;
-            weave_other(
-                alloc,
-                types,
-                condition,
-                first,
-                no.as_slice(),
-                yes.as_slice(),
-            )
+            weave_if(alloc, types, condition, yes.as_slice(), no.as_slice())
         }
         Stmt::While { op, args, body } => {
             weave_while(alloc, types, before, op, args.as_slice(), body.as_slice())

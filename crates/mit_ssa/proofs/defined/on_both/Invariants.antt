@@ -1,9 +1,6 @@
-use Rattle.std.proofs.Common.{◌≡◌, ◌<◌, ℕ, None, cond, get_or, is_some, length}
-use Rattle.mit_ssa.specs.Weaving.{looked}
+use Rattle.std.proofs.Common.{◌≡◌, take}
+use Rattle.mit_ssa.specs.Weaving.{both_kept, looked}
 use Rattle.mit_ssa.proofs.defined.on_both.Given as goal
 
-abbrev pub invariant-loop-variable : goal.invariant-loop-variable
-invariant-loop-variable l = record {
-  size : length l.both.items ≡ l.variable;
-  each : (k : ℕ) → k < l.variable → get_or l.both.items k None ≡ cond (is_some (looked l.other k)) (get_or l.one k None) None;
-}
+abbrev pub invariant-loop-one : goal.invariant-loop-one
+invariant-loop-one l = l.both.items ≡ both_kept (take l.one-index l.ones) (looked l.other)

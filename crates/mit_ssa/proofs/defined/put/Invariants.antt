@@ -1,6 +1,6 @@
 use Rattle.std.proofs.Common.{◌≡◌, length}
 use Rattle.mit_ssa.specs.Weaving.{looked}
-use Rattle.mit_ssa.proofs.defined.define.Given as goal
+use Rattle.mit_ssa.proofs.defined.put.Given as goal
 
 abbrev pub invariant-loop-gap : goal.invariant-loop-gap
 invariant-loop-gap l = record {
