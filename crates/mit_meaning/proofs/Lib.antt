@@ -1,0 +1,12 @@
+pub mod Good
+pub mod Standing
+pub mod LastDefinition
+pub mod Inputs
+pub mod OneMore
+pub mod Entering
+pub mod OneOperator
+pub mod PlanLaws
+pub mod Copies
+pub mod OneBlock
+pub mod Lockstep
+pub mod Endings
