@@ -1,5 +1,5 @@
 -- One verdict is due over the same words and files, and not more.
-use Rattle.std.proofs.Common.{◌≡◌, ◌∙◌, ℕ, List, [], ◌∷◌, ap, sym, subst, refl, inl, inr}
+use Rattle.std.proofs.Common.{◌≡◌, ◌∙◌, ℕ, List, [], ◌∷◌, ap, sym, subst, refl, inl, inr, arith}
 use Rattle.std.specs.Prelude.{◌⊎◌, Bool, true, false, codes, Option, Some, None, Result, Ok, Err}
 use Rattle.std.specs.FinMap as fin
 use Rattle.mit_rows.specs.Integers.{magnitude}
@@ -16,7 +16,7 @@ use Rattle.mit_app.specs.Due.{Accepted, AreActions, AreDecisions, AreWordsFor, D
 use Rattle.mit_app.specs.Ends.{Counted}
 use Rattle.mit_app.specs.ThinScript.{thin_steps}
 use Rattle.mit_app.specs.declared.words.Task.{Task}
-use Rattle.mit_app.specs.declared.words.Task.TheVariants.{Run, Step, Check}
+use Rattle.mit_app.specs.declared.words.Task.TheVariants.{Run, Step, Check, Plan}
 use Rattle.mit_app.specs.declared.words.TheConstants.{MAX_DECISIONS}
 
 -- a text spells one script, or is refused at one place
@@ -42,31 +42,35 @@ same_rejection s t c d e = ap (λ (p : ℕ × CheckCode). Rejected p.0 p.1) (sam
 no_rejection : (fault : ℕ × CheckCode) (types : List VarType) → ◌≡◌ {A = Result (List VarType) (ℕ × CheckCode)} (Err fault) (Ok types) → ⊥
 no_rejection fault types e = cc
 
+same_acceptance : (s t : Script) (ts us : List VarType) → s ≡ t → ◌≡◌ {A = Result (List VarType) (ℕ × CheckCode)} (Ok ts) (Ok us) → Accepted s ts ≡ Accepted t us
+same_acceptance s t ts us same e = cc
+
 found_once : (look : Option (List ℕ)) (a b : Found) → IsRead → IsFoundIn look a → IsFoundIn look b → a ≡ b
 found_once None Missing Missing read x y = refl
 found_once None Missing (Misspelled q) read x y = absurd y
 found_once None Missing (Rejected t d) read x y = absurd y
-found_once None Missing (Accepted t) read x y = absurd y
+found_once None Missing (Accepted t us) read x y = absurd y
 found_once None (Misspelled p) b read x y = absurd x
 found_once None (Rejected s c) b read x y = absurd x
-found_once None (Accepted s) b read x y = absurd x
+found_once None (Accepted s ts) b read x y = absurd x
 found_once (Some text) Missing b read x y = absurd x
 found_once (Some text) (Misspelled p) Missing read x y = absurd y
 found_once (Some text) (Misspelled p) (Misspelled q) read x y = ap Misspelled (read.place text p q x y)
 found_once (Some text) (Misspelled p) (Rejected s c) read x y = absurd (read.either text y.0 p y.1 x)
-found_once (Some text) (Misspelled p) (Accepted s) read x y = absurd (read.either text s p y.1 x)
+found_once (Some text) (Misspelled p) (Accepted s ts) read x y = absurd (read.either text s p y.0 x)
 found_once (Some text) (Rejected s c) Missing read x y = absurd y
 found_once (Some text) (Rejected s c) (Misspelled q) read x y = absurd (read.either text x.0 q x.1 y)
 found_once (Some text) (Rejected s c) (Rejected t d) read x y = same_rejection s t c d (sym x.2 ∙ moved text x.0 y.0 (Err (t, d)) read x.1 y.1 y.2)
-found_once (Some text) (Rejected s c) (Accepted t) read x y = absurd (no_rejection (s, c) y.0 (sym x.2 ∙ moved text x.0 t (Ok y.0) read x.1 y.1 y.2))
-found_once (Some text) (Accepted s) Missing read x y = absurd y
-found_once (Some text) (Accepted s) (Misspelled q) read x y = absurd (read.either text s q x.1 y)
-found_once (Some text) (Accepted s) (Rejected t d) read x y = absurd (no_rejection (t, d) x.0 (sym (sym x.2 ∙ moved text s y.0 (Err (t, d)) read x.1 y.1 y.2)))
-found_once (Some text) (Accepted s) (Accepted t) read x y = ap Accepted (read.script text s t x.1 y.1)
+found_once (Some text) (Rejected s c) (Accepted t us) read x y = absurd (no_rejection (s, c) us (sym x.2 ∙ moved text x.0 t (Ok us) read x.1 y.0 y.1))
+found_once (Some text) (Accepted s ts) Missing read x y = absurd y
+found_once (Some text) (Accepted s ts) (Misspelled q) read x y = absurd (read.either text s q x.0 y)
+found_once (Some text) (Accepted s ts) (Rejected t d) read x y = absurd (no_rejection (t, d) ts (sym (sym x.1 ∙ moved text s y.0 (Err (t, d)) read x.0 y.1 y.2)))
+found_once (Some text) (Accepted s ts) (Accepted t us) read x y =
+    same_acceptance s t ts us (read.script text s t x.0 y.0) (sym x.1 ∙ moved text s t (Ok us) read x.0 y.0 y.1)
 
 checked_found : (text : List ℕ) (script : Script) (outcome : Result (List VarType) (ℕ × CheckCode)) → IsSpelled text script → checked script ≡ outcome
     → (found : Found) × IsFoundIn (Some text) found
-checked_found text script (Ok types) spelled is = (Accepted script, (types, spelled, is))
+checked_found text script (Ok types) spelled is = (Accepted script types, (spelled, is))
 checked_found text script (Err fault) spelled is = (Rejected fault.0 fault.1, (script, spelled, is))
 
 some_found : (look : Option (List ℕ)) → IsRead → (found : Found) × IsFoundIn look found
@@ -98,6 +102,24 @@ step_or_check words decisions false a b (inr x) y = let e = sym x.1 ∙ y in cc
 step_or_check words decisions true a b (inl x) y = let e = sym x.0 ∙ y in cc
 step_or_check words decisions true a b (inr x) y = let e = sym x.1 ∙ y in cc
 
+-- the first letter of the first word
+abbrev first_letter : List (List ℕ) → ℕ
+first_letter [] = 0
+first_letter ([] ∷ words) = 0
+first_letter ((letter ∷ letters) ∷ words) = letter
+
+-- words that ask for a plan ask for nothing else
+run_or_plan : (words : List (List ℕ)) (a b : List ℕ) → AreWordsFor Run words a → AreWordsFor Plan words b → ⊥
+run_or_plan words a b x y = let e : 114 ≡ 112 = ap first_letter (sym x ∙ y) in absurd (omega (arith, e))
+
+step_or_plan : (words : List (List ℕ)) (decisions : ℕ) (a b : List ℕ) → AreWordsFor (Step decisions) words a → AreWordsFor Plan words b → ⊥
+step_or_plan words decisions a b (inl x) y = let e : 115 ≡ 112 = ap first_letter (sym x.0 ∙ y) in absurd (omega (arith, e))
+step_or_plan words decisions a b (inr x) y = let e : 115 ≡ 112 = ap first_letter (sym x.1 ∙ y) in absurd (omega (arith, e))
+
+check_or_plan : (words : List (List ℕ)) (shown : Bool) (a b : List ℕ) → AreWordsFor (Check shown) words a → AreWordsFor Plan words b → ⊥
+check_or_plan words false a b x y = let e : 99 ≡ 112 = ap first_letter (sym x ∙ y) in absurd (omega (arith, e))
+check_or_plan words true a b x y = let e : 99 ≡ 112 = ap first_letter (sym x ∙ y) in absurd (omega (arith, e))
+
 -- two such words of one call are the same words
 same_word : (words : List (List ℕ)) (a b x y : List ℕ) → words ≡ codes "step" ∷ a ∷ codes "--decisions" ∷ x ∷ [] → words ≡ codes "step" ∷ b ∷ codes "--decisions" ∷ y ∷ []
     → (x ≡ y) × (a ≡ b)
@@ -125,9 +147,11 @@ command_once words Run Run a b x y = let e = sym x.0 ∙ y.0 in (refl, cc)
 command_once words Run (Step d) a b x y = absurd (step_or_run words d b a y.0 x.0)
 command_once words Run (Check false) a b x y = let e = sym x.0 ∙ y.0 in cc
 command_once words Run (Check true) a b x y = let e = sym x.0 ∙ y.0 in cc
+command_once words Run Plan a b x y = absurd (run_or_plan words a b x.0 y.0)
 command_once words (Step c) Run a b x y = absurd (step_or_run words c a b x.0 y.0)
 command_once words (Step c) (Step d) a b x y = step_once words c d a b x.0 y.0
 command_once words (Step c) (Check shown) a b x y = absurd (step_or_check words c shown a b x.0 y.0)
+command_once words (Step c) Plan a b x y = absurd (step_or_plan words c a b x.0 y.0)
 command_once words (Check false) Run a b x y = let e = sym x.0 ∙ y.0 in cc
 command_once words (Check true) Run a b x y = let e = sym x.0 ∙ y.0 in cc
 command_once words (Check shown) (Step d) a b x y = absurd (step_or_check words d shown b a y.0 x.0)
@@ -135,6 +159,11 @@ command_once words (Check false) (Check false) a b x y = let e = sym x.0 ∙ y.0
 command_once words (Check false) (Check true) a b x y = let e = sym x.0 ∙ y.0 in cc
 command_once words (Check true) (Check false) a b x y = let e = sym x.0 ∙ y.0 in cc
 command_once words (Check true) (Check true) a b x y = let e = sym x.0 ∙ y.0 in (refl, cc)
+command_once words (Check shown) Plan a b x y = absurd (check_or_plan words shown a b x.0 y.0)
+command_once words Plan Run a b x y = absurd (run_or_plan words b a y.0 x.0)
+command_once words Plan (Step d) a b x y = absurd (step_or_plan words d b a y.0 x.0)
+command_once words Plan (Check shown) a b x y = absurd (check_or_plan words shown b a y.0 x.0)
+command_once words Plan Plan a b x y = let e = sym x.0 ∙ y.0 in (refl, cc)
 
 -- what is due for the task and the name of a command is what is due over its words
 once : (words : List (List ℕ)) (files : FileMap) (task : Task) (name : List ℕ) (v w : Verdict) → IsRead → IsCommand words task name → DueFor task name files v
@@ -160,39 +189,46 @@ pub any_actions : (script : Script) → (actions : ℕ) × ((steps : List ThinSt
 unfolding actions_at
 any_actions script = (actions_at (thin_steps script), λ steps is. ap actions_at is)
 
-pub counted_at : (name : List ℕ) (files : FileMap) (script : Script) → IsFound files name (Accepted script) → (actions : ℕ) × Counted name files actions
-counted_at name files script found = let counts = any_actions script in (counts.0, (script, found, counts.1))
+pub counted_at : (name : List ℕ) (files : FileMap) (script : Script) (types : List VarType) → IsFound files name (Accepted script types)
+    → (actions : ℕ) × Counted name files actions
+counted_at name files script types found = let counts = any_actions script in (counts.0, (script, types, found, counts.1))
 
-same_script : (one other : Script) → Accepted one ≡ Accepted other → one ≡ other
-same_script one other e = cc
+same_script : (one other : Script) (types others : List VarType) → Accepted one types ≡ Accepted other others → one ≡ other
+same_script one other types others e = cc
 
 -- counted for the script that was found, they are those of any script that is found
 are_actions : (name : List ℕ) (files : FileMap) (actions : ℕ) → IsRead → Counted name files actions → AreActions name files actions
-are_actions name files actions read counted script steps found thin =
-    let same = same_script counted.0 script (found_once (fin.get files name) (Accepted counted.0) (Accepted script) read counted.1 found) in
-    counted.2 steps (ap thin_steps same ∙ thin)
+are_actions name files actions read counted script types steps found thin =
+    let same = same_script counted.0 script counted.1 types (found_once (fin.get files name) (Accepted counted.0 counted.1) (Accepted script types) read counted.2 found) in
+    counted.3 steps (ap thin_steps same ∙ thin)
 
 pub runs_in : (words : List (List ℕ)) (task : Task) (name : List ℕ) (files : FileMap) (actions : ℕ) → IsRead → IsCommand words task name → Counted name files actions → RunsIn words files actions
 runs_in words task name files actions read command counted other run =
     let same = command_once words task Run name other command run in
     subst (λ (n : List ℕ). AreActions n files actions) same.1 (are_actions name files actions read counted)
 
-no_accepted : (script : Script) (found : Found) → Accepted script ≡ found → (found ≡ Missing) ⊎ (((place : ℕ) × (found ≡ Misspelled place)) ⊎ ((s : ℕ) × (c : CheckCode) × (found ≡ Rejected s c))) → ⊥
-no_accepted script found e (inl is) = let x = e ∙ is in cc
-no_accepted script found e (inr (inl is)) = let x = e ∙ is.1 in cc
-no_accepted script found e (inr (inr is)) = let x = e ∙ is.2 in cc
+no_accepted : (script : Script) (types : List VarType) (found : Found) → Accepted script types ≡ found → (found ≡ Missing) ⊎ (((place : ℕ) × (found ≡ Misspelled place)) ⊎ ((s : ℕ) × (c : CheckCode) × (found ≡ Rejected s c))) → ⊥
+no_accepted script types found e (inl is) = let x = e ∙ is in cc
+no_accepted script types found e (inr (inl is)) = let x = e ∙ is.1 in cc
+no_accepted script types found e (inr (inr is)) = let x = e ∙ is.2 in cc
 
 -- there are such actions, whatever is found
 found_actions : (name : List ℕ) (files : FileMap) (found : Found) → IsRead → IsFound files name found → (actions : ℕ) × AreActions name files actions
-found_actions name files (Accepted script) read is =
-    let counted = counted_at name files script is in
+found_actions name files (Accepted script types) read is =
+    let counted = counted_at name files script types is in
     (counted.0, are_actions name files counted.0 read counted.1)
 found_actions name files Missing read is =
-    (0, λ script steps there thin. absurd (no_accepted script Missing (found_once (fin.get files name) (Accepted script) Missing read there is) (inl refl)))
-found_actions name files (Misspelled place) read is =
-    (0, λ script steps there thin. absurd (no_accepted script (Misspelled place) (found_once (fin.get files name) (Accepted script) (Misspelled place) read there is) (inr (inl (place, refl)))))
-found_actions name files (Rejected s c) read is =
-    (0, λ script steps there thin. absurd (no_accepted script (Rejected s c) (found_once (fin.get files name) (Accepted script) (Rejected s c) read there is) (inr (inr (s, c, refl)))))
+    (0, λ script types steps there thin. absurd (no_accepted script types Missing (found_once (fin.get files name) (Accepted script types) Missing read there is) (inl refl)))
+found_actions name files (Misspelled place) read is = (
+  0,
+  λ script types steps there thin. absurd (no_accepted script types (Misspelled place) (found_once (fin.get files name) (Accepted script types) (Misspelled place) read there is)
+      (inr (inl (place, refl)))),
+)
+found_actions name files (Rejected s c) read is = (
+  0,
+  λ script types steps there thin. absurd (no_accepted script types (Rejected s c) (found_once (fin.get files name) (Accepted script types) (Rejected s c) read there is)
+      (inr (inr (s, c, refl)))),
+)
 
 pub some_runs_in : (words : List (List ℕ)) (task : Task) (name : List ℕ) (files : FileMap) → IsRead → IsCommand words task name → (actions : ℕ) × RunsIn words files actions
 some_runs_in words task name files read command =

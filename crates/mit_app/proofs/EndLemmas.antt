@@ -7,7 +7,7 @@ use Rattle.mit_world.specs.Outside.{Continues, Held}
 use Rattle.mit_shelf.specs.Shelf.{Agrees, Kept, kept_files}
 use Rattle.mit_shelf.specs.Staging.{stages_all}
 use Rattle.mit_app.specs.Answers.{Answers, Gains, Leaves, Publishing, Stages, TellsFiles}
-use Rattle.mit_app.specs.Due.{Accepts, DueFor, IsCommand, IsUsage, Publishes, Refused, Verdict, console_text}
+use Rattle.mit_app.specs.Due.{DueFor, IsCommand, IsUsage, Publishes, Refused, Shows, Verdict, console_text}
 use Rattle.mit_app.specs.Ends.{Ends, EndsStaging, EndsWell, IfLine, StagesFront, StopsStaging, halt_line, halt_status}
 use Rattle.mit_app.specs.Lines.{outside_line, refusal_line}
 use Rattle.mit_app.specs.Statuses.{IsOutside, IsUnstaged, refusal_status}
@@ -62,6 +62,7 @@ refusal_small (refusal.Absent name) = (omega arith, omega arith, omega arith, om
 refusal_small (refusal.Syntax place) = (omega arith, omega arith, omega arith, omega arith, omega arith)
 refusal_small (refusal.Statement s c) = (omega arith, omega arith, omega arith, omega arith, omega arith)
 refusal_small refusal.NotThin = (omega arith, omega arith, omega arith, omega arith, omega arith)
+refusal_small refusal.TooLarge = (omega arith, omega arith, omega arith, omega arith, omega arith)
 refusal_small (refusal.Fault fault) = (omega arith, omega arith, omega arith, omega arith, omega arith)
 
 -- a halt ended with this status: its own, or that of a line that could not be put
@@ -119,7 +120,7 @@ stages_none files (Some held) new is = is
 untouched : {O : Type 0} (held : O → Option Held) (verdict : Verdict) (actions status : ℕ) (old new : O) (written written' : Option (List ℕ))
     → status ≢ 0 → status ≢ 5 → new ≡ old → Leaves held verdict actions status old new written written'
 untouched held (Refused why) actions status old new written written' none own same = (same, own)
-untouched held (Accepts count shown) actions status old new written written' none own same = (same, own)
+untouched held (Shows text) actions status old new written written' none own same = (same, own)
 untouched held (Publishes files tally) actions status old new written written' none own same = record {
   done = λ e. absurd (none e);
   count = 0;

@@ -5,3 +5,4 @@ pub mod ThinLemmas
 pub mod ThinMeans
 pub mod NumberLemmas
 pub mod TaskLemmas
+pub mod PlanLemmas

@@ -1,6 +1,6 @@
 -- How reading, running, publishing and showing make the end of a task.
 use Rattle.std.proofs.Common.{◌≡◌, ◌∙◌, ◌++◌, ℕ, List, ap, sym, subst, refl, arith, inl, inr}
-use Rattle.std.specs.Prelude.{◌⊎◌, Bool, Option, Some, None, Result, IfErr, IfSome, Ok, Err, option_and_then, option_map, slice_get, string_bytes}
+use Rattle.std.specs.Prelude.{◌⊎◌, Bool, true, false, if◌then◌else◌, Option, Some, None, Result, IfErr, IfSome, Ok, Err, option_and_then, option_map, slice_get, string_bytes}
 use Rattle.std.proofs.lemmas.List.{take_all}
 use Rattle.std.specs.FinMap as fin
 use Rattle.mit_world.specs.Files.{FileMap}
@@ -10,19 +10,23 @@ use Rattle.mit_engine.specs.Thin as thin
 use Rattle.mit_engine.specs.Thin.{actions_of}
 use Rattle.mit_engine.specs.declared.thin.Done.{Done}
 use Rattle.mit_engine.specs.declared.thin.ThinStep.{ThinStep}
+use Rattle.mit_ops.specs.Endings.{Ending, finished, stopped}
 use Rattle.mit_ops.specs.declared.faults.ScriptFault.{ScriptFault}
+use Rattle.mit_ops.specs.declared.types.VarType.{VarType}
+use Rattle.mit_plan.specs.Printed.{plan_text}
 use Rattle.mit_script.specs.Execution as all
 use Rattle.mit_script.specs.declared.tree.Script.{Script}
 use Rattle.mit_script.specs.declared.typed.Typed.{Typed}
 use Rattle.mit_shelf.specs.Printed.{published}
+use Rattle.mit_ssa.specs.PlanFor.{plan_for}
 use Rattle.mit_shelf.specs.Shelf.{Agrees, Kept, bytes_at, kept}
 use Rattle.mit_shelf.specs.Staging.{stages_all}
 use Rattle.mit_shelf.specs.declared.stop.Stop.TheVariants as stop
 use Rattle.mit_step.specs.Stepping.{EndsAs}
 use Rattle.mit_step.specs.declared.step.Stepped.{Stepped}
 use Rattle.mit_app.specs.Answers.{Gains, Stages}
-use Rattle.mit_app.specs.Due.{Accepted, Blocks, Decisions, Found, IsFound, IsFoundIn, Misspelled, Missing, Publishes, Refused, Rejected, Tally, ending_verdict, run_verdict, task_verdict, verdict_for}
-use Rattle.mit_app.specs.Ends.{Ends, EndsStaging, FindsAs, IfOutsideFailed, PublishesAs, FindsIn, Reports, RunsAs, ShowsAs, StagesFront, StopsStaging}
+use Rattle.mit_app.specs.Due.{Accepted, Blocks, Decisions, Found, IsFound, IsFoundIn, Misspelled, Missing, Publishes, Refused, Rejected, Shows, Tally, ending_verdict, is_large, run_verdict, task_verdict, verdict_for}
+use Rattle.mit_app.specs.Ends.{Ends, EndsStaging, FindsAs, IfOutsideFailed, PublishesAs, PutsAs, FindsIn, Reports, RunsAs, ShowsAs, ShowsText, StagesFront, StopsStaging}
 use Rattle.mit_app.specs.Lines.{report_line, step_line}
 use Rattle.mit_app.specs.ThinScript.{thin_steps}
 use Rattle.mit_app.specs.declared.ends.Halt.{Halt}
@@ -31,7 +35,7 @@ use Rattle.mit_app.specs.declared.ends.Outside.TheVariants as outside
 use Rattle.mit_app.specs.declared.ends.Refusal.TheVariants as refusal
 use Rattle.mit_app.specs.declared.publish.Ran.{Ran}
 use Rattle.mit_app.specs.declared.words.Task.{Task}
-use Rattle.mit_app.specs.declared.words.Task.TheVariants.{Run, Step, Check}
+use Rattle.mit_app.specs.declared.words.Task.TheVariants.{Run, Step, Check, Plan}
 use Rattle.mit_app.specs.declared.words.TheConstants.{DECISIONS}
 use Rattle.mit_app.proofs.DueLemmas.{any_actions, counted_at}
 use Rattle.mit_app.proofs.EndLemmas.{HaltsWith}
@@ -41,7 +45,7 @@ use Rattle.mit_app.proofs.ThinMeans.{all_of_thin}
 
 -- what a text is read as is what is found under its name
 pub finds : (name text : List ℕ) (files : FileMap) (result : Result Typed Halt) → fin.get files name ≡ Some text → FindsIn text result → FindsAs name files result
-finds name text files (Ok typed) got reads = subst (λ (look : Option (List ℕ)). IsFoundIn look (Accepted typed.script)) (sym got) reads
+finds name text files (Ok typed) got reads = subst (λ (look : Option (List ℕ)). IsFoundIn look (Accepted typed.script typed.types)) (sym got) reads
 finds name text files (Err (halt.Refused why)) got reads =
     λ task. (reads.0, subst (λ (look : Option (List ℕ)). IsFoundIn look reads.0) (sym got) reads.1, reads.2 task name files)
 finds name text files (Err (halt.Failed why)) got reads = tt
@@ -92,24 +96,24 @@ reading_ends held task name files outbox written (halt.Failed outside.NoMemory) 
 
 -- ---- running
 
-pub not_thin_runs : (script : Script) (files : FileMap) → thin_steps script ≡ None → RunsAs Run script files (Err (halt.Refused refusal.NotThin))
-not_thin_runs script files none = ap (run_verdict files script) none
+pub not_thin_runs : (script : Script) (types : List VarType) (files : FileMap) → thin_steps script ≡ None → RunsAs Run script types files (Err (halt.Refused refusal.NotThin))
+not_thin_runs script types files none = ap (run_verdict files script) none
 
 same_steps : (one other : List ThinStep) → Some one ≡ Some other → one ≡ other
 same_steps one other e = cc
 
 -- what is due for a thin script is the ending of its steps
-thin_due : (script : Script) (files : FileMap) (steps : List ThinStep) (ending : thin.Ending) → thin_steps script ≡ Some steps
+thin_due : (script : Script) (types : List VarType) (files : FileMap) (steps : List ThinStep) (ending : thin.Ending) → thin_steps script ≡ Some steps
     → all.exec script files DECISIONS ≡ all_of_thin (thin.exec files steps) → thin.exec files steps ≡ ending
-    → task_verdict Run files script ≡ ending_verdict (λ used. Blocks 1) (all_of_thin ending)
-thin_due script files steps ending gives means is = ap (run_verdict files script) gives ∙ ap (ending_verdict (λ used. Blocks 1)) (means ∙ ap all_of_thin is)
+    → task_verdict Run files script types ≡ ending_verdict (λ used. Blocks 1) (all_of_thin ending)
+thin_due script types files steps ending gives means is = ap (run_verdict files script) gives ∙ ap (ending_verdict (λ used. Blocks 1)) (means ∙ ap all_of_thin is)
 
-pub ended_runs : (script : Script) (files : FileMap) (steps : List ThinStep) (done : Done) (ran : Ran) → thin_steps script ≡ Some steps
+pub ended_runs : (script : Script) (types : List VarType) (files : FileMap) (steps : List ThinStep) (done : Done) (ran : Ran) → thin_steps script ≡ Some steps
     → all.exec script files DECISIONS ≡ all_of_thin (thin.exec files steps) → AnswersEnding steps (thin.exec files steps) (Ok done)
-    → ran.files ≡ done.files → string_bytes ran.report ≡ report_line (fin.len done.files) done.blocks done.actions → RunsAs Run script files (Ok ran)
-ended_runs script files steps done ran gives means answer same told = record {
+    → ran.files ≡ done.files → string_bytes ran.report ≡ report_line (fin.len done.files) done.blocks done.actions → RunsAs Run script types files (Ok ran)
+ended_runs script types files steps done ran gives means answer same told = record {
   tally = Blocks 1;
-  due = thin_due script files steps (thin.Finished answer.0) gives means answer.1 ∙ ap (λ (m : FileMap). Publishes m (Blocks 1)) (sym answer.2 ∙ sym same);
+  due = thin_due script types files steps (thin.Finished answer.0) gives means answer.1 ∙ ap (λ (m : FileMap). Publishes m (Blocks 1)) (sym answer.2 ∙ sym same);
   actions = done.actions;
   counted = λ other is. answer.4 ∙ ap actions_of (same_steps steps other (sym gives ∙ is));
   text = told ∙ ap (λ (blocks : ℕ). report_line (fin.len done.files) blocks done.actions) answer.3
@@ -120,19 +124,19 @@ ended_runs script files steps done ran gives means answer same told = record {
 fault_alike : (fault : ScriptFault) → fault.decisions ≡ 0 → record { statement = fault.statement; decisions = 0; kind = fault.kind } ≡ fault
 fault_alike fault none = ap (λ (d : ℕ). record { statement = fault.statement; decisions = d; kind = fault.kind }) (sym none)
 
-pub faulty_runs : (script : Script) (files : FileMap) (steps : List ThinStep) (fault : ScriptFault) → thin_steps script ≡ Some steps
+pub faulty_runs : (script : Script) (types : List VarType) (files : FileMap) (steps : List ThinStep) (fault : ScriptFault) → thin_steps script ≡ Some steps
     → all.exec script files DECISIONS ≡ all_of_thin (thin.exec files steps)
-    → (thin.exec files steps ≡ thin.Faulted fault.statement fault.kind) × (fault.decisions ≡ 0) → RunsAs Run script files (Err (halt.Refused (refusal.Fault fault)))
-faulty_runs script files steps fault gives means answer =
-    thin_due script files steps (thin.Faulted fault.statement fault.kind) gives means answer.0
+    → (thin.exec files steps ≡ thin.Faulted fault.statement fault.kind) × (fault.decisions ≡ 0) → RunsAs Run script types files (Err (halt.Refused (refusal.Fault fault)))
+faulty_runs script types files steps fault gives means answer =
+    thin_due script types files steps (thin.Faulted fault.statement fault.kind) gives means answer.0
     ∙ ap (λ (f : ScriptFault). Refused (refusal.Fault f)) (fault_alike fault answer.1)
 
 -- a script that is run step by step came to its end
-pub ended_steps : (decisions : ℕ) (script : Script) (files : FileMap) (stepped : Stepped) (ran : Ran) (ending : all.Ending) → all.exec script files decisions ≡ ending
+pub ended_steps : (decisions : ℕ) (script : Script) (types : List VarType) (files : FileMap) (stepped : Stepped) (ran : Ran) (ending : Ending) → all.exec script files decisions ≡ ending
     → EndsAs ending (Ok stepped) → ran.files ≡ stepped.files → string_bytes ran.report ≡ step_line (fin.len stepped.files) stepped.decisions
-    → RunsAs (Step decisions) script files (Ok ran)
-ended_steps decisions script files stepped ran (all.stopped fault) is ends same told = absurd ends
-ended_steps decisions script files stepped ran (all.finished writes used) is ends same told =
+    → RunsAs (Step decisions) script types files (Ok ran)
+ended_steps decisions script types files stepped ran (stopped fault) is ends same told = absurd ends
+ended_steps decisions script types files stepped ran (finished writes used) is ends same told =
     let counts = any_actions script in
     record {
       tally = Decisions used;
@@ -143,32 +147,32 @@ ended_steps decisions script files stepped ran (all.finished writes used) is end
     }
 
 -- or it is at fault
-pub faulty_steps : (decisions : ℕ) (script : Script) (files : FileMap) (fault : ScriptFault) (ending : all.Ending) → all.exec script files decisions ≡ ending
-    → EndsAs ending (Err (stop.Fault fault)) → RunsAs (Step decisions) script files (Err (halt.Refused (refusal.Fault fault)))
-faulty_steps decisions script files fault (all.stopped other) is ends =
+pub faulty_steps : (decisions : ℕ) (script : Script) (types : List VarType) (files : FileMap) (fault : ScriptFault) (ending : Ending) → all.exec script files decisions ≡ ending
+    → EndsAs ending (Err (stop.Fault fault)) → RunsAs (Step decisions) script types files (Err (halt.Refused (refusal.Fault fault)))
+faulty_steps decisions script types files fault (stopped other) is ends =
     ap (ending_verdict Decisions) is ∙ ap (λ (f : ScriptFault). Refused (refusal.Fault f)) (sym ends)
-faulty_steps decisions script files fault (all.finished writes used) is ends = absurd ends
+faulty_steps decisions script types files fault (finished writes used) is ends = absurd ends
 
 -- a run that did not come to its end
-pub running_ends : {O : Type 0} (held : O → Option Held) (task : Task) (name : List ℕ) (files : FileMap) (outbox : O) (written : Option (List ℕ)) (script : Script) (h : Halt) (folder : Type 0)
-    → IfOutsideFailed h folder ⊥ ⊥ → IsFound files name (Accepted script) → RunsAs task script files (Err h) → Ends held task name files outbox outbox written written (Err h)
-running_ends held task name files outbox written script (halt.Refused why) folder cause found runs = ((Accepted script, found, sym runs), refl, refl)
-running_ends held task name files outbox written script (halt.Failed outside.Folder) folder cause found runs = (refl, refl)
-running_ends held task name files outbox written script (halt.Failed outside.Outbox) folder cause found runs = absurd cause
-running_ends held task name files outbox written script (halt.Failed outside.Console) folder cause found runs = absurd cause
-running_ends held task name files outbox written script (halt.Failed outside.NoMemory) folder cause found runs = inl refl
+pub running_ends : {O : Type 0} (held : O → Option Held) (task : Task) (name : List ℕ) (files : FileMap) (outbox : O) (written : Option (List ℕ)) (script : Script) (types : List VarType) (h : Halt) (folder : Type 0)
+    → IfOutsideFailed h folder ⊥ ⊥ → IsFound files name (Accepted script types) → RunsAs task script types files (Err h) → Ends held task name files outbox outbox written written (Err h)
+running_ends held task name files outbox written script types (halt.Refused why) folder cause found runs = ((Accepted script types, found, sym runs), refl, refl)
+running_ends held task name files outbox written script types (halt.Failed outside.Folder) folder cause found runs = (refl, refl)
+running_ends held task name files outbox written script types (halt.Failed outside.Outbox) folder cause found runs = absurd cause
+running_ends held task name files outbox written script types (halt.Failed outside.Console) folder cause found runs = absurd cause
+running_ends held task name files outbox written script types (halt.Failed outside.NoMemory) folder cause found runs = inl refl
 
 -- ---- publishing
 
-staging : (task : Task) (name : List ℕ) (files : FileMap) (script : Script) (published : FileMap) (report : List ℕ) (Stopped : FileMap → List ℕ → Type 0)
-    → IsFound files name (Accepted script) → Reports task script files published report → Stopped published report → EndsStaging task name files Stopped
-staging task name files script published report Stopped found reports stopped = record {
+staging : (task : Task) (name : List ℕ) (files : FileMap) (script : Script) (types : List VarType) (published : FileMap) (report : List ℕ) (Stopped : FileMap → List ℕ → Type 0)
+    → IsFound files name (Accepted script types) → Reports task script types files published report → Stopped published report → EndsStaging task name files Stopped
+staging task name files script types published report Stopped found reports halts = record {
   published = published;
   tally = reports.tally;
-  due = (Accepted script, found, sym reports.due);
+  due = (Accepted script types, found, sym reports.due);
   actions = reports.actions;
-  counted = (script, found, reports.counted);
-  stopped = subst (Stopped published) reports.text stopped;
+  counted = (script, types, found, reports.counted);
+  stopped = subst (Stopped published) reports.text halts;
 }
 
 -- where all files are staged, that is as many as there are
@@ -184,15 +188,15 @@ pub gains_text : (line text : List ℕ) (old new : Option (List ℕ)) → text �
 gains_text line text old new e is = is ∙ ap (λ (t : List ℕ). option_map (λ before. before ++ t) old) e
 
 -- a run that came to its end is published, or stops
-pub publishing_ends : {O : Type 0} (held : O → Option Held) (task : Task) (name : List ℕ) (files : FileMap) (old new : O) (written written' : Option (List ℕ)) (script : Script) (ran : Ran)
-    (result : Result (Unit {0}) Halt) → IsFound files name (Accepted script) → RunsAs task script files (Ok ran)
+pub publishing_ends : {O : Type 0} (held : O → Option Held) (task : Task) (name : List ℕ) (files : FileMap) (old new : O) (written written' : Option (List ℕ)) (script : Script) (types : List VarType) (ran : Ran)
+    (result : Result (Unit {0}) Halt) → IsFound files name (Accepted script types) → RunsAs task script types files (Ok ran)
     → PublishesAs ran.files (string_bytes ran.report) (held old) (held new) written written' result → Ends held task name files old new written written' result
-publishing_ends held task name files old new written written' script ran (Ok _) found runs publishes = record {
+publishing_ends held task name files old new written written' script types ran (Ok _) found runs publishes = record {
   verdict = Publishes ran.files runs.tally;
-  due = (Accepted script, found, sym runs.due);
+  due = (Accepted script types, found, sym runs.due);
   well = refl;
   actions = runs.actions;
-  counted = (script, found, runs.counted);
+  counted = (script, types, found, runs.counted);
   text = subst (λ (report : List ℕ). Gains report written written') runs.text publishes.1;
   outbox = record {
     done = λ _. publishes.0;
@@ -202,62 +206,71 @@ publishing_ends held task name files old new written written' script ran (Ok _) 
     stopped = λ five. absurd (omega (arith, five));
   };
 }
-publishing_ends held task name files old new written written' script ran (Err (halt.Refused why)) found runs publishes = absurd publishes
-publishing_ends held task name files old new written written' script ran (Err (halt.Failed outside.Folder)) found runs publishes = absurd publishes
-publishing_ends held task name files old new written written' script ran (Err (halt.Failed outside.Outbox)) found runs publishes =
-    staging task name files script ran.files (string_bytes ran.report) (λ published report. StopsStaging published report (held old) (held new) written written') found runs publishes
-publishing_ends held task name files old new written written' script ran (Err (halt.Failed outside.Console)) found runs publishes =
-    inr (staging task name files script ran.files (string_bytes ran.report) (λ published report. StagesFront published (held old) (held new)) found runs publishes)
-publishing_ends held task name files old new written written' script ran (Err (halt.Failed outside.NoMemory)) found runs publishes =
-    inr (staging task name files script ran.files (string_bytes ran.report) (λ published report. StagesFront published (held old) (held new)) found runs publishes)
+publishing_ends held task name files old new written written' script types ran (Err (halt.Refused why)) found runs publishes = absurd publishes
+publishing_ends held task name files old new written written' script types ran (Err (halt.Failed outside.Folder)) found runs publishes = absurd publishes
+publishing_ends held task name files old new written written' script types ran (Err (halt.Failed outside.Outbox)) found runs publishes =
+    staging task name files script types ran.files (string_bytes ran.report) (λ published report. StopsStaging published report (held old) (held new) written written') found runs publishes
+publishing_ends held task name files old new written written' script types ran (Err (halt.Failed outside.Console)) found runs publishes =
+    inr (staging task name files script types ran.files (string_bytes ran.report) (λ published report. StagesFront published (held old) (held new)) found runs publishes)
+publishing_ends held task name files old new written written' script types ran (Err (halt.Failed outside.NoMemory)) found runs publishes =
+    inr (staging task name files script types ran.files (string_bytes ran.report) (λ published report. StagesFront published (held old) (held new)) found runs publishes)
 
 -- ---- showing
 
-pub reading_shows : (shown : Bool) (name : List ℕ) (files : FileMap) (written : Option (List ℕ)) (h : Halt) (folder : Type 0)
-    → IfOutsideFailed h folder ⊥ ⊥ → FindsAs name files (Err h) → ShowsAs shown name files written written (Err h)
-reading_shows shown name files written (halt.Refused why) folder cause finds = (finds (Check shown), refl)
-reading_shows shown name files written (halt.Failed outside.Folder) folder cause finds = refl
-reading_shows shown name files written (halt.Failed outside.Outbox) folder cause finds = absurd cause
-reading_shows shown name files written (halt.Failed outside.Console) folder cause finds = tt
-reading_shows shown name files written (halt.Failed outside.NoMemory) folder cause finds = tt
+-- the text that a task makes was put on the console, or not
+pub putting_shows : (task : Task) (name : List ℕ) (files : FileMap) (written written' : Option (List ℕ)) (text : List ℕ) (result : Result (Unit {0}) Halt)
+    → ShowsText task name files text → PutsAs text written written' result → ShowsAs task name files written written' result
+putting_shows task name files written written' text (Ok _) shows puts = (text, shows, puts)
+putting_shows task name files written written' text (Err (halt.Refused why)) shows puts = absurd puts
+putting_shows task name files written written' text (Err (halt.Failed outside.Folder)) shows puts = absurd puts
+putting_shows task name files written written' text (Err (halt.Failed outside.Outbox)) shows puts = absurd puts
+putting_shows task name files written written' text (Err (halt.Failed outside.Console)) shows puts = tt
+putting_shows task name files written written' text (Err (halt.Failed outside.NoMemory)) shows puts = tt
 
-pub showing_ends : {O : Type 0} (held : O → Option Held) (shown : Bool) (name : List ℕ) (files : FileMap) (outbox : O) (written written' : Option (List ℕ)) (result : Result (Unit {0}) Halt)
-    → ShowsAs shown name files written written' result → Ends held (Check shown) name files outbox outbox written written' result
-showing_ends held shown name files outbox written written' (Ok _) shows =
-    let counts = counted_at name files shows.0 shows.1 in
+-- showing a text is how such a task ends
+pub showing_ends : {O : Type 0} (held : O → Option Held) (task : Task) (name : List ℕ) (files : FileMap) (outbox : O) (written written' : Option (List ℕ)) (result : Result (Unit {0}) Halt)
+    → ShowsAs task name files written written' result → Ends held task name files outbox outbox written written' result
+showing_ends held task name files outbox written written' (Ok _) shows =
+    let what = shows.1 in
+    let counts = counted_at name files what.script what.types what.found in
     record {
-      verdict = task_verdict (Check shown) files shows.0;
-      due = (Accepted shows.0, shows.1, refl);
+      verdict = Shows shows.0;
+      due = (Accepted what.script what.types, what.found, sym what.due);
       well = refl;
       actions = counts.0;
       counted = counts.1;
       text = shows.2;
       outbox = (refl, λ five. absurd (omega (arith, five)));
     }
-showing_ends held shown name files outbox written written' (Err (halt.Refused why)) shows = (shows.0, refl, shows.1)
-showing_ends held shown name files outbox written written' (Err (halt.Failed outside.Folder)) shows = (refl, shows)
-showing_ends held shown name files outbox written written' (Err (halt.Failed outside.Outbox)) shows = absurd shows
-showing_ends held shown name files outbox written written' (Err (halt.Failed outside.Console)) shows = inl refl
-showing_ends held shown name files outbox written written' (Err (halt.Failed outside.NoMemory)) shows = inl refl
+showing_ends held task name files outbox written written' (Err (halt.Refused why)) shows = (shows.0, refl, shows.1)
+showing_ends held task name files outbox written written' (Err (halt.Failed outside.Folder)) shows = (refl, shows)
+showing_ends held task name files outbox written written' (Err (halt.Failed outside.Outbox)) shows = absurd shows
+showing_ends held task name files outbox written written' (Err (halt.Failed outside.Console)) shows = inl refl
+showing_ends held task name files outbox written written' (Err (halt.Failed outside.NoMemory)) shows = inl refl
 
 -- ---- the usage line
 
-ended_apart : (tally : ℕ → Tally) (ending : all.Ending) → Refused refusal.Usage ≡ ending_verdict tally ending → ⊥
-ended_apart tally (all.stopped fault) e = cc
-ended_apart tally (all.finished writes used) e = cc
+ended_apart : (tally : ℕ → Tally) (ending : Ending) → Refused refusal.Usage ≡ ending_verdict tally ending → ⊥
+ended_apart tally (stopped fault) e = cc
+ended_apart tally (finished writes used) e = cc
 
 run_apart : (files : FileMap) (script : Script) (found : Option (List ThinStep)) → Refused refusal.Usage ≡ run_verdict files script found → ⊥
 run_apart files script None e = cc
 run_apart files script (Some steps) e = ended_apart (λ used. Blocks 1) (all.exec script files DECISIONS) e
+
+plan_apart : (large : Bool) (text : List ℕ) → Refused refusal.Usage ≡ (if large then Refused refusal.TooLarge else Shows text) → ⊥
+plan_apart true text e = cc
+plan_apart false text e = cc
 
 -- no task is due the usage line
 usage_apart : (task : Task) (name : List ℕ) (files : FileMap) (found : Found) → Refused refusal.Usage ≡ verdict_for task name files found → ⊥
 usage_apart task name files Missing e = cc
 usage_apart task name files (Misspelled place) e = cc
 usage_apart task name files (Rejected statement code) e = cc
-usage_apart Run name files (Accepted script) e = run_apart files script (thin_steps script) e
-usage_apart (Step decisions) name files (Accepted script) e = ended_apart Decisions (all.exec script files decisions) e
-usage_apart (Check shown) name files (Accepted script) e = cc
+usage_apart Run name files (Accepted script types) e = run_apart files script (thin_steps script) e
+usage_apart (Step decisions) name files (Accepted script types) e = ended_apart Decisions (all.exec script files decisions) e
+usage_apart (Check shown) name files (Accepted script types) e = cc
+usage_apart Plan name files (Accepted script types) e = plan_apart (is_large (plan_for script types)) (plan_text (plan_for script types)) e
 
 -- so a task never ends with the status 2
 pub halted_apart : {O : Type 0} (held : O → Option Held) (task : Task) (name : List ℕ) (files : FileMap) (status : ℕ) (old new : O) (written mid : Option (List ℕ)) (h : Halt)
@@ -267,6 +280,7 @@ halted_apart held task name files status old new written mid (halt.Refused (refu
 halted_apart held task name files status old new written mid (halt.Refused (refusal.Syntax place)) ends (inl is) two = absurd (omega (arith, is, two))
 halted_apart held task name files status old new written mid (halt.Refused (refusal.Statement s c)) ends (inl is) two = absurd (omega (arith, is, two))
 halted_apart held task name files status old new written mid (halt.Refused refusal.NotThin) ends (inl is) two = absurd (omega (arith, is, two))
+halted_apart held task name files status old new written mid (halt.Refused refusal.TooLarge) ends (inl is) two = absurd (omega (arith, is, two))
 halted_apart held task name files status old new written mid (halt.Refused (refusal.Fault fault)) ends (inl is) two = absurd (omega (arith, is, two))
 halted_apart held task name files status old new written mid (halt.Failed outside.Folder) ends (inl is) two = absurd (omega (arith, is, two))
 halted_apart held task name files status old new written mid (halt.Failed outside.Outbox) ends (inl is) two = absurd (omega (arith, is, two))

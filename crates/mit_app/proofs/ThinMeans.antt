@@ -21,6 +21,7 @@ use Rattle.mit_expr.specs.declared.expr.Expr.TheOpen.{Expr-F}
 use Rattle.mit_expr.specs.declared.expr.Expr.TheOpen as expr
 use Rattle.mit_expr.specs.declared.expr.Expr.TheViews.{roll-Expr, roll-out-Expr}
 use Rattle.mit_ops.specs.Answers.{BagOrFault, at_row, both, over, settled}
+use Rattle.mit_ops.specs.Endings.{Ending, finished, stopped}
 use Rattle.mit_ops.specs.Kinds.{bag_inputs_of, capture_step, captures_in, captures_of}
 use Rattle.mit_ops.specs.Operators.{captured, file_rows, name_written, whole}
 use Rattle.mit_ops.specs.declared.faults.FaultKind.{FaultKind}
@@ -53,9 +54,9 @@ use Rattle.mit_app.proofs.ThinLemmas.{all_back, all_front, before_from, columns_
 -- ---- endings
 
 -- how a thin script ends, as the interpreter of all scripts says it: no decision is taken
-abbrev pub all_of_thin : thin.Ending → all.Ending
-all_of_thin (thin.Finished writes) = all.finished writes 0
-all_of_thin (thin.Faulted statement kind) = all.stopped (record { statement = statement; decisions = 0; kind = kind })
+abbrev pub all_of_thin : thin.Ending → Ending
+all_of_thin (thin.Finished writes) = finished writes 0
+all_of_thin (thin.Faulted statement kind) = stopped (record { statement = statement; decisions = 0; kind = kind })
 
 -- ---- names
 

@@ -7,7 +7,7 @@ use Rattle.std.proofs.lemmas.Bool.{and_parts, leb-true}
 use Rattle.mit_shelf.specs.Names.{IsLegal, is_legal}
 use Rattle.mit_app.specs.Due.{AreDecisions, IsCommand, IsUsage, texts}
 use Rattle.mit_app.specs.Ends.{IsStepped, IsSteppedWithin}
-use Rattle.mit_app.specs.declared.words.Task.TheVariants.{Run, Step, Check}
+use Rattle.mit_app.specs.declared.words.Task.TheVariants.{Run, Step, Check, Plan}
 use Rattle.mit_app.specs.declared.words.TheConstants.{DECISIONS}
 
 -- a list of four elements is these
@@ -120,11 +120,12 @@ no_step words decisions script plain within (inr is, legal) = within script deci
 
 pub usage_of : (words : List (List ℕ)) → ((script : List ℕ) → ¬ IsCommand words Run script) → ((script : List ℕ) → ¬ IsStepped words script)
     → ((script : List ℕ) (decisions : ℕ) → ¬ IsSteppedWithin words decisions script) → ((script : List ℕ) → ¬ IsCommand words (Check false) script)
-    → ((script : List ℕ) → ¬ IsCommand words (Check true) script) → IsUsage words
-usage_of words run plain within check print Run script = run script
-usage_of words run plain within check print (Step decisions) script = no_step words decisions script plain within
-usage_of words run plain within check print (Check false) script = check script
-usage_of words run plain within check print (Check true) script = print script
+    → ((script : List ℕ) → ¬ IsCommand words (Check true) script) → ((script : List ℕ) → ¬ IsCommand words Plan script) → IsUsage words
+usage_of words run plain within check print plan Run script = run script
+usage_of words run plain within check print plan (Step decisions) script = no_step words decisions script plain within
+usage_of words run plain within check print plan (Check false) script = check script
+usage_of words run plain within check print plan (Check true) script = print script
+usage_of words run plain within check print plan Plan script = plan script
 
 -- a legal name is short
 pub legal_short : (name : List ℕ) → IsLegal name → length name ≤ 64

@@ -4,7 +4,7 @@ use Rattle.std.specs.FinMap as fin
 use Rattle.mit_world.specs.Files.{FileMap}
 use Rattle.mit_world.specs.Outside.{Held, publishes}
 use Rattle.mit_shelf.specs.Staging.{stages_all}
-use Rattle.mit_app.specs.Due.{Accepts, Due, Publishes, Refused, RunsIn, Verdict, status_of, console_text}
+use Rattle.mit_app.specs.Due.{Due, Publishes, Refused, RunsIn, Shows, Verdict, status_of, console_text}
 use Rattle.mit_app.specs.Lines.{outside_line}
 use Rattle.mit_app.specs.Statuses.{IsOutside, outside_status}
 use Rattle.mit_app.specs.declared.ends.Outside.TheVariants as outside
@@ -41,7 +41,7 @@ pub record Publishing (files : FileMap) (report : List ℕ) (status : ℕ) (old 
 -- what becomes of the outbox: it is as it was, and has not failed, where no publication is due
 abbrev pub Leaves : {O : Type 0} → (O → Option Held) → Verdict → ℕ → ℕ → O → O → Option (List ℕ) → Option (List ℕ) → Type 0
 Leaves held (Refused why) actions status old new written written' = (new ≡ old) × (status ≢ outside_status outside.Outbox)
-Leaves held (Accepts count shown) actions status old new written written' = (new ≡ old) × (status ≢ outside_status outside.Outbox)
+Leaves held (Shows text) actions status old new written written' = (new ≡ old) × (status ≢ outside_status outside.Outbox)
 Leaves held (Publishes files tally) actions status old new written written' =
     Publishing files (console_text (Publishes files tally) actions) status (held old) (held new) written written'
 

@@ -1,11 +1,13 @@
 -- What is due over the words of a call and the files of a folder.
-use Rattle.std.specs.Prelude.{◌≡◌, ◌≤◌, ⊤, ◌⊎◌, ℕ, length, List, [], ◌∷◌, ◌++◌, codes, map, Bool, true, false, if◌then◌else◌, Option, Some, None, Ok, Err}
+use Rattle.std.specs.Prelude.{◌≡◌, ◌≤◌, ⊤, ◌⊎◌, ℕ, ◌*◌, nat_lt, length, List, [], ◌∷◌, ◌++◌, codes, map, Bool, true, false, ◌||◌, if◌then◌else◌}
+use Rattle.std.specs.Prelude.{Option, Some, None, Ok, Err}
 use Rattle.std.specs.Prelude.{String, string_bytes}
 use Rattle.std.specs.FinMap as fin
 use Rattle.mit_rows.specs.Integers.{magnitude}
 use Rattle.mit_world.specs.Files.{FileMap}
 use Rattle.mit_shelf.specs.Names.{IsLegal}
 use Rattle.mit_shelf.specs.Printed.{published}
+use Rattle.mit_ops.specs.Endings.{Ending, finished, stopped}
 use Rattle.mit_ops.specs.declared.types.VarType.{VarType}
 use Rattle.mit_script.specs.Accepted.{checked}
 use Rattle.mit_script.specs.Grammar.{IsSpelled}
@@ -14,7 +16,11 @@ use Rattle.mit_script.specs.Trees.{statements_of}
 use Rattle.mit_script.specs.declared.tree.Script.{Script}
 use Rattle.mit_script.specs.declared.typed.CheckCode.{CheckCode}
 use Rattle.mit_parse.specs.Places.{IsRefusedAt}
-use Rattle.mit_script.specs.Execution.{Ending, exec, finished, stopped}
+use Rattle.mit_script.specs.Execution.{exec}
+use Rattle.mit_plan.specs.Plans.{PlanOf}
+use Rattle.mit_plan.specs.Printed.{plan_text}
+use Rattle.mit_plan.specs.declared.plan.TheConstants.{MAX_OPS}
+use Rattle.mit_ssa.specs.PlanFor.{plan_for}
 use Rattle.mit_engine.specs.Thin.{actions_of}
 use Rattle.mit_engine.specs.declared.thin.ThinStep.{ThinStep}
 use Rattle.mit_app.specs.Lines.{accepted_line, refusal_line, report_line, step_line}
@@ -23,7 +29,7 @@ use Rattle.mit_app.specs.ThinScript.{thin_steps}
 use Rattle.mit_app.specs.declared.ends.Refusal.{Refusal}
 use Rattle.mit_app.specs.declared.ends.Refusal.TheVariants as refusal
 use Rattle.mit_app.specs.declared.words.Task.{Task}
-use Rattle.mit_app.specs.declared.words.Task.TheVariants.{Run, Step, Check}
+use Rattle.mit_app.specs.declared.words.Task.TheVariants.{Run, Step, Check, Plan}
 use Rattle.mit_app.specs.declared.words.TheConstants.{DECISIONS, MAX_DECISIONS}
 
 -- ---- words
@@ -44,6 +50,7 @@ AreWordsFor (Step decisions) words script =
     ⊎ ((number : List ℕ) × (words ≡ codes "step" ∷ script ∷ codes "--decisions" ∷ number ∷ []) × AreDecisions number decisions)
 AreWordsFor (Check false) words script = words ≡ codes "check" ∷ script ∷ []
 AreWordsFor (Check true) words script = words ≡ codes "check" ∷ script ∷ codes "--print" ∷ []
+AreWordsFor Plan words script = words ≡ codes "plan" ∷ script ∷ []
 
 -- the words are that command, and SCRIPT is a legal file name
 abbrev pub IsCommand : List (List ℕ) → Task → List ℕ → Type 0
@@ -53,29 +60,32 @@ IsCommand words task script = AreWordsFor task words script × IsLegal script
 abbrev pub IsUsage : List (List ℕ) → Type 0
 IsUsage words = (task : Task) (script : List ℕ) → ¬ IsCommand words task script
 
--- the words ask for a check
+-- the words ask for a check, and for a plan
 abbrev pub IsCheck : List (List ℕ) → Type 0
 IsCheck words = (shown : Bool) × (script : List ℕ) × IsCommand words (Check shown) script
 
+abbrev pub IsPlan : List (List ℕ) → Type 0
+IsPlan words = (script : List ℕ) × IsCommand words Plan script
+
 -- ---- what is found under a script's name
 
--- no file, a text that is refused at a byte, a script of which a statement is refused, or an accepted script
+-- no file, a text that is refused at a byte, a script of which a statement is refused, or an accepted script and the types of its variables
 pub data Found : Type 0 where
   Missing : Found
   Misspelled : ℕ → Found
   Rejected : ℕ → CheckCode → Found
-  Accepted : Script → Found
+  Accepted : Script → List VarType → Found
 
 -- what is found where a look-up gives no file, or this text
 abbrev pub IsFoundIn : Option (List ℕ) → Found → Type 0
 IsFoundIn None Missing = ⊤
 IsFoundIn None (Misspelled place) = ⊥
 IsFoundIn None (Rejected statement code) = ⊥
-IsFoundIn None (Accepted script) = ⊥
+IsFoundIn None (Accepted script types) = ⊥
 IsFoundIn (Some text) Missing = ⊥
 IsFoundIn (Some text) (Misspelled place) = IsRefusedAt text place
 IsFoundIn (Some text) (Rejected statement code) = (script : Script) × IsSpelled text script × (checked script ≡ Err (statement, code))
-IsFoundIn (Some text) (Accepted script) = (types : List VarType) × IsSpelled text script × (checked script ≡ Ok types)
+IsFoundIn (Some text) (Accepted script types) = IsSpelled text script × (checked script ≡ Ok types)
 
 abbrev pub IsFound : FileMap → List ℕ → Found → Type 0
 IsFound files name found = IsFoundIn (fin.get files name) found
@@ -93,8 +103,8 @@ pub data Verdict : Type 0 where
   Refused : Refusal → Verdict
   -- the script came to its end, and these files are published
   Publishes : FileMap → Tally → Verdict
-  -- it is accepted: how many statements it has, and the text that is shown
-  Accepts : ℕ → List ℕ → Verdict
+  -- it is accepted, and this text is shown
+  Shows : List ℕ → Verdict
 
 -- the step-by-step interpreter ended so; a tally is made of the number of its decisions
 abbrev pub ending_verdict : (ℕ → Tally) → Ending → Verdict
@@ -106,18 +116,27 @@ abbrev pub run_verdict : FileMap → Script → Option (List ThinStep) → Verdi
 run_verdict files script None = Refused refusal.NotThin
 run_verdict files script (Some steps) = ending_verdict (λ used. Blocks 1) (exec script files DECISIONS)
 
--- what a task makes of an accepted script
-abbrev pub task_verdict : Task → FileMap → Script → Verdict
-task_verdict Run files script = run_verdict files script (thin_steps script)
-task_verdict (Step decisions) files script = ending_verdict Decisions (exec script files decisions)
-task_verdict (Check shown) files script = Accepts (statements_of script) (if shown then printed script else [])
+-- a plan has more than 4,096 operators, or so many edges that 256 times as many pass 1,048,576
+abbrev pub is_large : PlanOf → Bool
+is_large plan = nat_lt MAX_OPS (length plan.ops) || nat_lt 1048576 (256 * length plan.edges)
+
+-- the text of a plan is shown, if it is not too large
+abbrev pub plan_verdict : PlanOf → Verdict
+plan_verdict plan = if is_large plan then Refused refusal.TooLarge else Shows (plan_text plan)
+
+-- what a task makes of an accepted script whose variables have these types
+abbrev pub task_verdict : Task → FileMap → Script → List VarType → Verdict
+task_verdict Run files script types = run_verdict files script (thin_steps script)
+task_verdict (Step decisions) files script types = ending_verdict Decisions (exec script files decisions)
+task_verdict (Check shown) files script types = Shows (accepted_line (statements_of script) ++ (if shown then printed script else []))
+task_verdict Plan files script types = plan_verdict (plan_for script types)
 
 -- what a task makes of what is found
 abbrev pub verdict_for : Task → List ℕ → FileMap → Found → Verdict
 verdict_for task name files Missing = Refused (refusal.Absent name)
 verdict_for task name files (Misspelled place) = Refused (refusal.Syntax place)
 verdict_for task name files (Rejected statement code) = Refused (refusal.Statement statement code)
-verdict_for task name files (Accepted script) = task_verdict task files script
+verdict_for task name files (Accepted script types) = task_verdict task files script types
 
 -- what is due for a task with a script of this name
 abbrev pub DueFor : Task → List ℕ → FileMap → Verdict → Type 0
@@ -132,7 +151,8 @@ Due words files verdict =
 -- so many actions are those of the run of the script of this name, where it can be run
 abbrev pub AreActions : List ℕ → FileMap → ℕ → Type 0
 AreActions name files actions =
-    (script : Script) (steps : List ThinStep) → IsFound files name (Accepted script) → thin_steps script ≡ Some steps → actions ≡ actions_of steps
+    (script : Script) (types : List VarType) (steps : List ThinStep) → IsFound files name (Accepted script types) → thin_steps script ≡ Some steps
+    → actions ≡ actions_of steps
 
 -- the same of the run for which the words ask
 abbrev pub RunsIn : List (List ℕ) → FileMap → ℕ → Type 0
@@ -143,7 +163,7 @@ RunsIn words files actions = (name : List ℕ) → IsCommand words Run name → 
 abbrev pub status_of : Verdict → ℕ
 status_of (Refused why) = refusal_status why
 status_of (Publishes files tally) = 0
-status_of (Accepts count shown) = 0
+status_of (Shows text) = 0
 
 -- the report on a script that came to its end, where its run took so many actions
 abbrev pub report_of : ℕ → Tally → ℕ → List ℕ
@@ -154,4 +174,4 @@ report_of files (Decisions decisions) actions = step_line files decisions
 abbrev pub console_text : Verdict → ℕ → List ℕ
 console_text (Refused why) actions = refusal_line why
 console_text (Publishes files tally) actions = report_of (fin.len files) tally actions
-console_text (Accepts count shown) actions = accepted_line count ++ shown
+console_text (Shows text) actions = text

@@ -1,15 +1,17 @@
 -- Devices of the proofs: nobody has to believe them. How the parts of the top call end, in the words of their private contracts.
-use Rattle.std.specs.Prelude.{◌≡◌, ⊤, ◌⊎◌, ◌<◌, ◌≤◌, ℕ, List, [], ◌∷◌, codes, string_bytes, Bool, Option, Some, Result, Ok, Err}
+use Rattle.std.specs.Prelude.{◌≡◌, ⊤, ◌⊎◌, ◌<◌, ◌≤◌, ℕ, List, [], ◌∷◌, codes, string_bytes, Option, Some, Result, Ok, Err}
 use Rattle.std.specs.FinMap as fin
 use Rattle.mit_world.specs.Files.{FileMap}
 use Rattle.mit_world.specs.Outside.{Held}
 use Rattle.mit_engine.specs.Thin.{actions_of}
 use Rattle.mit_engine.specs.declared.thin.ThinStep.{ThinStep}
 use Rattle.mit_shelf.specs.Names.{IsLegal}
+use Rattle.mit_ops.specs.declared.types.VarType.{VarType}
+use Rattle.mit_plan.specs.Plans.{PlanOf}
 use Rattle.mit_script.specs.declared.tree.Script.{Script}
 use Rattle.mit_script.specs.declared.typed.Typed.{Typed}
 use Rattle.mit_app.specs.Answers.{Gains, Leaves, PublishesAll, Stages}
-use Rattle.mit_app.specs.Due.{Accepted, AreDecisions, DueFor, Found, IsFound, IsFoundIn, Publishes, Refused, Tally, Verdict, status_of, task_verdict, console_text, verdict_for}
+use Rattle.mit_app.specs.Due.{Accepted, AreDecisions, DueFor, Found, IsFound, IsFoundIn, Publishes, Refused, Shows, Tally, Verdict, status_of, plan_verdict, task_verdict, console_text, verdict_for}
 use Rattle.mit_app.specs.Lines.{outside_line, refusal_line}
 use Rattle.mit_app.specs.Statuses.{outside_status, refusal_status}
 use Rattle.mit_app.specs.ThinScript.{thin_steps}
@@ -18,7 +20,7 @@ use Rattle.mit_app.specs.declared.ends.Halt.TheVariants as halt
 use Rattle.mit_app.specs.declared.ends.Outside.TheVariants as outside
 use Rattle.mit_app.specs.declared.publish.Ran.{Ran}
 use Rattle.mit_app.specs.declared.words.Task.{Task}
-use Rattle.mit_app.specs.declared.words.Task.TheVariants.{Run, Step, Check}
+use Rattle.mit_app.specs.declared.words.Task.TheVariants.{Run, Step, Check, Plan}
 
 -- ---- words
 
@@ -56,44 +58,46 @@ IfLine (halt.Failed outside.Outbox) fact = fact
 IfLine (halt.Failed outside.Console) fact = ⊤
 IfLine (halt.Failed outside.NoMemory) fact = ⊤
 
-abbrev pub IsCheckTask : Task → Type 0
-IsCheckTask Run = ⊥
-IsCheckTask (Step decisions) = ⊥
-IsCheckTask (Check shown) = ⊤
+-- a task that only shows a text
+abbrev pub IsShowing : Task → Type 0
+IsShowing Run = ⊥
+IsShowing (Step decisions) = ⊥
+IsShowing (Check shown) = ⊤
+IsShowing Plan = ⊤
 
 -- ---- reading, running and publishing
 
 -- an accepted script is found in a text, or what is found there is refused for every task
 abbrev pub FindsIn : List ℕ → Result Typed Halt → Type 0
-FindsIn text (Ok typed) = IsFoundIn (Some text) (Accepted typed.script)
+FindsIn text (Ok typed) = IsFoundIn (Some text) (Accepted typed.script typed.types)
 FindsIn text (Err (halt.Refused why)) = (found : Found) × IsFoundIn (Some text) found
     × ((task : Task) (name : List ℕ) (files : FileMap) → Refused why ≡ verdict_for task name files found)
 FindsIn text (Err (halt.Failed why)) = ⊤
 
 -- the same under a name
 abbrev pub FindsAs : List ℕ → FileMap → Result Typed Halt → Type 0
-FindsAs name files (Ok typed) = IsFound files name (Accepted typed.script)
+FindsAs name files (Ok typed) = IsFound files name (Accepted typed.script typed.types)
 FindsAs name files (Err (halt.Refused why)) = (task : Task) → DueFor task name files (Refused why)
 FindsAs name files (Err (halt.Failed why)) = ⊤
 
 -- an accepted script is found under the name, and its run, where it can be run, takes so many actions
 abbrev pub Counted : List ℕ → FileMap → ℕ → Type 0
-Counted name files actions = (script : Script) × IsFound files name (Accepted script)
+Counted name files actions = (script : Script) × (types : List VarType) × IsFound files name (Accepted script types)
     × ((steps : List ThinStep) → thin_steps script ≡ Some steps → actions ≡ actions_of steps)
 
 -- these files and this report are those of a task with an accepted script
-pub record Reports (task : Task) (script : Script) (files published : FileMap) (report : List ℕ) : Type 0 where
+pub record Reports (task : Task) (script : Script) (types : List VarType) (files published : FileMap) (report : List ℕ) : Type 0 where
   pub tally : Tally
-  pub due : task_verdict task files script ≡ Publishes published tally
+  pub due : task_verdict task files script types ≡ Publishes published tally
   pub actions : ℕ
   pub counted : (steps : List ThinStep) → thin_steps script ≡ Some steps → actions ≡ actions_of steps
   pub text : report ≡ console_text (Publishes published tally) actions
 
 -- a run of an accepted script came to its end, or not
-abbrev pub RunsAs : Task → Script → FileMap → Result Ran Halt → Type 0
-RunsAs task script files (Ok ran) = Reports task script files ran.files (string_bytes ran.report)
-RunsAs task script files (Err (halt.Refused why)) = task_verdict task files script ≡ Refused why
-RunsAs task script files (Err (halt.Failed why)) = ⊤
+abbrev pub RunsAs : Task → Script → List VarType → FileMap → Result Ran Halt → Type 0
+RunsAs task script types files (Ok ran) = Reports task script types files ran.files (string_bytes ran.report)
+RunsAs task script types files (Err (halt.Refused why)) = task_verdict task files script types ≡ Refused why
+RunsAs task script types files (Err (halt.Failed why)) = ⊤
 
 -- so many of these files are staged
 abbrev pub StagesFront : FileMap → Option Held → Option Held → Type 0
@@ -114,15 +118,38 @@ PublishesAs files report old new written written' (Err (halt.Failed outside.Outb
 PublishesAs files report old new written written' (Err (halt.Failed outside.Console)) = StagesFront files old new
 PublishesAs files report old new written written' (Err (halt.Failed outside.NoMemory)) = StagesFront files old new
 
--- an accepted script was shown, or not
-abbrev pub ShowsAs : Bool → List ℕ → FileMap → Option (List ℕ) → Option (List ℕ) → Result (Unit {0}) Halt → Type 0
-ShowsAs shown name files written written' (Ok _) =
-    (script : Script) × IsFound files name (Accepted script) × Gains (console_text (task_verdict (Check shown) files script) 0) written written'
-ShowsAs shown name files written written' (Err (halt.Refused why)) = DueFor (Check shown) name files (Refused why) × (written' ≡ written)
-ShowsAs shown name files written written' (Err (halt.Failed outside.Folder)) = written' ≡ written
-ShowsAs shown name files written written' (Err (halt.Failed outside.Outbox)) = ⊥
-ShowsAs shown name files written written' (Err (halt.Failed outside.Console)) = ⊤
-ShowsAs shown name files written written' (Err (halt.Failed outside.NoMemory)) = ⊤
+-- a plan was not printed
+abbrev pub PlanHalts : PlanOf → Halt → Type 0
+PlanHalts plan (halt.Refused why) = plan_verdict plan ≡ Refused why
+PlanHalts plan (halt.Failed outside.Folder) = ⊥
+PlanHalts plan (halt.Failed outside.Outbox) = ⊥
+PlanHalts plan (halt.Failed outside.Console) = ⊥
+PlanHalts plan (halt.Failed outside.NoMemory) = ⊤
+
+-- a text was put on the console, or not
+abbrev pub PutsAs : List ℕ → Option (List ℕ) → Option (List ℕ) → Result (Unit {0}) Halt → Type 0
+PutsAs text written written' (Ok _) = Gains text written written'
+PutsAs text written written' (Err (halt.Refused why)) = ⊥
+PutsAs text written written' (Err (halt.Failed outside.Folder)) = ⊥
+PutsAs text written written' (Err (halt.Failed outside.Outbox)) = ⊥
+PutsAs text written written' (Err (halt.Failed outside.Console)) = ⊤
+PutsAs text written written' (Err (halt.Failed outside.NoMemory)) = ⊤
+
+-- this text is what a task makes of the script of this name
+pub record ShowsText (task : Task) (name : List ℕ) (files : FileMap) (text : List ℕ) : Type 0 where
+  pub script : Script
+  pub types : List VarType
+  pub found : IsFound files name (Accepted script types)
+  pub due : task_verdict task files script types ≡ Shows text
+
+-- the text that a task makes of the script of this name was shown, or not
+abbrev pub ShowsAs : Task → List ℕ → FileMap → Option (List ℕ) → Option (List ℕ) → Result (Unit {0}) Halt → Type 0
+ShowsAs task name files written written' (Ok _) = (text : List ℕ) × ShowsText task name files text × Gains text written written'
+ShowsAs task name files written written' (Err (halt.Refused why)) = DueFor task name files (Refused why) × (written' ≡ written)
+ShowsAs task name files written written' (Err (halt.Failed outside.Folder)) = written' ≡ written
+ShowsAs task name files written written' (Err (halt.Failed outside.Outbox)) = ⊥
+ShowsAs task name files written written' (Err (halt.Failed outside.Console)) = ⊤
+ShowsAs task name files written written' (Err (halt.Failed outside.NoMemory)) = ⊤
 
 -- ---- a task
 

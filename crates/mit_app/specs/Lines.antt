@@ -53,6 +53,7 @@ refusal_line (refusal.Syntax place) = line_of_parts (codes "script refused: synt
 refusal_line (refusal.Statement statement code) =
     line_of_parts (codes "script refused: statement " ∷ decimal statement ∷ codes ", " ∷ code_words code ∷ [])
 refusal_line refusal.NotThin = line_of_parts (codes "script refused: not a thin script" ∷ [])
+refusal_line refusal.TooLarge = line_of_parts (codes "script refused: plan too large" ∷ [])
 refusal_line (refusal.Fault fault) =
     line_of_parts (codes "fault: statement " ∷ decimal fault.statement ∷ codes ", decisions " ∷ decimal fault.decisions ∷ codes ", " ∷ kind_words fault.kind ∷ [])
 

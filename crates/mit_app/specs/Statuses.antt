@@ -11,6 +11,7 @@ refusal_status (refusal.Absent name) = 9
 refusal_status (refusal.Syntax place) = 3
 refusal_status (refusal.Statement statement code) = 3
 refusal_status refusal.NotThin = 3
+refusal_status refusal.TooLarge = 3
 refusal_status (refusal.Fault fault) = 1
 
 abbrev pub outside_status : Outside → ℕ

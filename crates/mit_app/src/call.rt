@@ -5,17 +5,18 @@ ghost use Rattle.mit_shelf.specs.Names.{IsLegal};
 ghost use Rattle.mit_shelf.specs.Shelf.{Agrees};
 ghost use Rattle.mit_shelf.specs.Staging.{published_in};
 ghost use Rattle.mit_app.specs.Answers.{Answers, Gains, TellsFiles};
-ghost use Rattle.mit_app.specs.Due.{IsCheck, IsUsage, texts};
-ghost use Rattle.mit_app.specs.Ends.{Ends, IfOutsideFailed, IfLine, IsCheckTask, halt_line, halt_status};
+ghost use Rattle.mit_app.specs.Due.{IsCheck, IsPlan, IsUsage, texts};
+ghost use Rattle.mit_app.specs.Ends.{Ends, IfOutsideFailed, IfLine, IsShowing, halt_line, halt_status};
 ghost use Rattle.mit_app.specs.Lines.{outside_line, refusal_line};
 ghost use Rattle.mit_app.specs.Statuses.{IsUnstaged};
 ghost use Rattle.mit_app.specs.declared.ends.Outside.TheVariants as outside;
 ghost use Rattle.mit_app.specs.declared.ends.Refusal.TheVariants as refusal;
 ghost use Rattle.mit_app.specs.declared.words.Task.TheVariants as task;
 
-use crate::check::show;
+use crate::check::check_and_show;
 use crate::ends::{Halt, Outside, Refusal};
 use crate::lines::halted;
+use crate::plan::plan_and_show;
 use crate::publish::publish;
 use crate::run::run;
 use crate::script::read_script;
@@ -30,17 +31,17 @@ use std::alloc::Global;
 
 /// Runs the command that the words are, over this folder, outbox and console, and answers the program's status:
 ///
-/// - 0: the script's files are published, and the console has gained the report; or the script is accepted;
+/// - 0: the script's files are published, and the console has gained the report; or that the script is accepted, or its plan, is shown;
 /// - 1: the script is at fault;
-/// - 2: the words are not `run SCRIPT --parts 1`, `step SCRIPT`, `step SCRIPT --decisions N`, `check SCRIPT` or `check SCRIPT --print`,
-///   with a legal file name and a number from 1 to 1,000,000;
-/// - 3: no script is spelled, the check refuses a statement, or the script is to be run and cannot be run yet;
+/// - 2: the words are not `run SCRIPT --parts 1`, `step SCRIPT`, `step SCRIPT --decisions N`, `check SCRIPT`, `check SCRIPT --print` or
+///   `plan SCRIPT`, with a legal file name and a number from 1 to 1,000,000;
+/// - 3: no script is spelled, the check refuses a statement, the script is to be run and cannot be run yet, or its plan is too large;
 /// - 4, 5, 6: the folder, the outbox or the console failed;
 /// - 7: memory ran out;
 /// - 9: the folder has no such script.
 ///
-/// At every status but 0, and by a check, nothing is published, and one line tells why; at 6 and 7 it may be missing. Until it can be
-/// given, the seed of the schedule is 0.
+/// At every status but 0 nothing is published, and one line tells why; at 6 and 7 it may be missing. A check and a plan publish nothing.
+/// Until it can be given, the seed of the schedule is 0.
 pub fn mitos<F: Folder, O: Outbox, C: Console>(
     alloc: Global,
     words: &[String],
@@ -56,8 +57,9 @@ pub fn mitos<F: Folder, O: Outbox, C: Console>(
     ensures unpublished { result ≢ 0 → published_in (O.held outbox.new) ≡ published_in (O.held outbox.old) }
     ensures uncalled { IsUnstaged result → outbox.new ≡ outbox.old }
 
-    // A check leaves the outbox as it was.
+    // A check and a plan leave the outbox as it was.
     ensures checked { IsCheck (texts words.now) → outbox.new ≡ outbox.old }
+    ensures planned { IsPlan (texts words.now) → outbox.new ≡ outbox.old }
 
     // Each fault of the outside has its cause in this call; that of the folder has its line.
     ensures folder_failed { result ≡ 4 → Rose (F.faults folder.old) (F.faults folder.new) }
@@ -103,7 +105,7 @@ fn perform<F: Folder, O: Outbox, C: Console>(
     ensures ends { (files : FileMap) → Agrees shelf.new files
         → Ends O.held task name.now files outbox.old outbox.new (C.written console.old) (C.written console.new) result }
     ensures unpublished { OnErr result (published_in (O.held outbox.new) ≡ published_in (O.held outbox.old)) }
-    ensures checked { IsCheckTask task → outbox.new ≡ outbox.old }
+    ensures shown { IsShowing task → outbox.new ≡ outbox.old }
     ensures agrees { IfSome (F.files folder.old) (λ files. Agrees shelf.old files → Agrees shelf.new files) }
     ensures failed { IfErr result (λ halt. IfOutsideFailed halt (Rose (F.faults folder.old) (F.faults folder.new))
         (Rose (O.faults outbox.old) (O.faults outbox.new)) (Rose (C.faults console.old) (C.faults console.new))) }
@@ -123,7 +125,8 @@ fn perform<F: Folder, O: Outbox, C: Console>(
         Task::Step { decisions } => {
             step_and_publish(alloc, name, decisions, shelf, folder, outbox, console)
         }
-        Task::Check { print } => show(alloc, name, print, shelf, folder, console),
+        Task::Check { print } => check_and_show(alloc, name, print, shelf, folder, console),
+        Task::Plan => plan_and_show(alloc, name, shelf, folder, console),
     }
 }
 

@@ -8,17 +8,19 @@ ghost use Rattle.mit_script.specs.Printed.{printed};
 ghost use Rattle.mit_script.specs.Trees.{IsFormed, statements_of};
 ghost use Rattle.mit_app.specs.Ends.{IfOutsideFailed, ShowsAs};
 ghost use Rattle.mit_app.specs.Lines.{accepted_line};
+ghost use Rattle.mit_app.specs.declared.words.Task.TheVariants as task;
 
 use crate::ends::{Halt, Outside};
 use crate::lines::acceptance;
 use crate::script::read_script;
+use crate::show::show;
 use mit_script::{Script, print, statements};
 use mit_shelf::Shelf;
-use mit_world::{Console, Folder, OutsideStop};
+use mit_world::{Console, Folder};
 use std::alloc::{AllocError, Global};
 
-/// What the console gains for an accepted script: its number of statements, and the printed script where it is shown.
-fn shown(alloc: Global, script: &Script, print_it: bool) -> Result<Vec<u8>, AllocError>
+/// What is shown of an accepted script: its number of statements, and the printed script where it is asked for.
+fn acceptance_text(alloc: Global, script: &Script, print_it: bool) -> Result<Vec<u8>, AllocError>
     requires { IsFormed script.now }
     ensures { IfOk result (λ text. text.items
         ≡ accepted_line (statements_of script.now) ++ (if print_it then printed script.now else [])) }
@@ -32,8 +34,8 @@ fn shown(alloc: Global, script: &Script, print_it: bool) -> Result<Vec<u8>, Allo
     Ok(text)
 }
 
-/// Fetches, checks and shows the script of this name.
-pub(crate) fn show<F: Folder, C: Console>(
+/// Fetches and checks the script of this name, and shows that it is accepted.
+pub(crate) fn check_and_show<F: Folder, C: Console>(
     alloc: Global,
     name: &str,
     print_it: bool,
@@ -43,7 +45,7 @@ pub(crate) fn show<F: Folder, C: Console>(
 ) -> Result<(), Halt>
     requires { IsLegal name.now }
     ensures shown { (files : FileMap) → Agrees shelf.new files
-        → ShowsAs print_it name.now files (C.written console.old) (C.written console.new) result }
+        → ShowsAs (task.Check print_it) name.now files (C.written console.old) (C.written console.new) result }
     ensures grows { (files : FileMap) → Agrees shelf.new files → Agrees shelf.old files }
     ensures agrees { IfSome (F.files folder.old) (λ files. Agrees shelf.old files → Agrees shelf.new files) }
     ensures failed { IfErr result (λ halt. IfOutsideFailed halt (Rose (F.faults folder.old) (F.faults folder.new))
@@ -57,12 +59,8 @@ pub(crate) fn show<F: Folder, C: Console>(
         Ok(typed) => typed,
         Err(halt) => return Err(halt),
     };
-    let Ok(shown) = shown(alloc, typed.script(), print_it) else {
-        return Err(Halt::Failed(Outside::NoMemory));
-    };
-    match console.put(&shown) {
-        Ok(()) => Ok(()),
-        Err(OutsideStop::Failed) => Err(Halt::Failed(Outside::Console)),
-        Err(OutsideStop::NoMemory) => Err(Halt::Failed(Outside::NoMemory)),
+    match acceptance_text(alloc, typed.script(), print_it) {
+        Ok(text) => show(&text, console),
+        Err(_) => Err(Halt::Failed(Outside::NoMemory)),
     }
 }

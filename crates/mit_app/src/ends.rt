@@ -23,6 +23,8 @@ pub enum Refusal {
     },
     /// The script is accepted, but cannot be run yet.
     NotThin,
+    /// The script is accepted, but its plan is too large.
+    TooLarge,
     /// The script is at fault.
     Fault(ScriptFault),
 }
@@ -72,7 +74,8 @@ impl Refusal {
         match self {
             Refusal::Fault(_) => 1,
             Refusal::Usage => 2,
-            Refusal::Syntax(_) | Refusal::Statement { .. } | Refusal::NotThin => 3,
+            Refusal::Syntax(_) | Refusal::Statement { .. } | Refusal::NotThin | Refusal::TooLarge =>
+                3,
             Refusal::Absent(_) => 9,
         }
     }

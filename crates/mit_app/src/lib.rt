@@ -1,4 +1,4 @@
-//! The top call of Mitos: the words of a command line, the script, its check or its run, and how it ends.
+//! The top call of Mitos: the words of a command line, the script, its check, its plan or its run, and how it ends.
 #![tactic(auto)]
 
 mod call;
@@ -6,9 +6,11 @@ mod check;
 mod ends;
 pub mod laws;
 mod lines;
+mod plan;
 mod publish;
 mod run;
 mod script;
+mod show;
 mod step;
 #[cfg(test)]
 mod tests;

@@ -71,6 +71,7 @@ fn refused(alloc: Global, why: &Refusal) -> Result<String, AllocError>
         Refusal::Syntax(place) => { format!(in alloc; "script refused: syntax at byte {place}\n") }
         Refusal::Statement { statement, code } => rejected(alloc, *statement, *code),
         Refusal::NotThin => String::from_str(alloc, "script refused: not a thin script\n"),
+        Refusal::TooLarge => String::from_str(alloc, "script refused: plan too large\n"),
         Refusal::Fault(fault) => faulted(alloc, fault),
     }
 }

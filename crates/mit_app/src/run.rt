@@ -29,7 +29,7 @@ pub(crate) fn run<S: Schedule, F: Folder>(
     folder: &mut F,
 ) -> Result<Ran, Halt>
     requires { IsNumbered typed.now.script }
-    ensures ran { (files : FileMap) → Agrees shelf.new files → RunsAs task.Run typed.now.script files result }
+    ensures ran { (files : FileMap) → Agrees shelf.new files → RunsAs task.Run typed.now.script typed.now.types files result }
     ensures grows { (files : FileMap) → Agrees shelf.new files → Agrees shelf.old files }
     ensures agrees { IfSome (F.files folder.old) (λ files. Agrees shelf.old files → Agrees shelf.new files) }
     ensures failed { IfErr result (λ halt. IfOutsideFailed halt (Rose (F.faults folder.old) (F.faults folder.new)) ⊥ ⊥) }

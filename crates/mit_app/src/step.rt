@@ -25,7 +25,7 @@ pub(crate) fn step<F: Folder>(
     shelf: &mut Shelf,
     folder: &mut F,
 ) -> Result<Ran, Halt>
-    ensures ran { (files : FileMap) → Agrees shelf.new files → RunsAs (task.Step decisions) typed.now.script files result }
+    ensures ran { (files : FileMap) → Agrees shelf.new files → RunsAs (task.Step decisions) typed.now.script typed.now.types files result }
     ensures grows { (files : FileMap) → Agrees shelf.new files → Agrees shelf.old files }
     ensures agrees { IfSome (F.files folder.old) (λ files. Agrees shelf.old files → Agrees shelf.new files) }
     ensures failed { IfErr result (λ halt. IfOutsideFailed halt (Rose (F.faults folder.old) (F.faults folder.new)) ⊥ ⊥) }

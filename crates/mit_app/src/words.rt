@@ -23,10 +23,12 @@ pub(crate) enum Task {
     Step { decisions: u32 },
     /// Check it, and print it where that is asked for.
     Check { print: bool },
+    /// Show the text of its plan.
+    Plan,
 }
 
 /// The task and the script's name, where the words are `run SCRIPT --parts 1`, `step SCRIPT`, `step SCRIPT --decisions N`,
-/// `check SCRIPT` or `check SCRIPT --print` with a legal name.
+/// `check SCRIPT`, `check SCRIPT --print` or `plan SCRIPT` with a legal name.
 pub(crate) fn command_of(words: &[String]) -> Option<(Task, &str)>
     ensures command { IfSome result (λ found. IsCommand (texts words.now) found.0 found.1.now) }
     ensures other { IfNone result (IsUsage (texts words.now)) }
@@ -50,6 +52,9 @@ pub(crate) fn command_of(words: &[String]) -> Option<(Task, &str)>
     }
     if let Some(script) = script_to_print(words) {
         return Some((Task::Check { print: true }, script));
+    }
+    if let Some(script) = script_to_plan(words) {
+        return Some((Task::Plan, script));
     }
     None
 }
@@ -135,6 +140,19 @@ fn script_to_print(words: &[String]) -> Option<&str>
             if check.as_str() == "check"
                 && print.as_str() == "--print"
                 && legal_name(script.as_bytes()) => { Some(script.as_str()) }
+        _ => None,
+    }
+}
+
+// The same of `plan SCRIPT`.
+fn script_to_plan(words: &[String]) -> Option<&str>
+    ensures command { IfSome result (λ script. IsCommand (texts words.now) task.Plan script.now) }
+    ensures other { IfNone result ((script : List ℕ) → ¬ IsCommand (texts words.now) task.Plan script) }
+{
+    match words {
+        [plan, script] if plan.as_str() == "plan" && legal_name(script.as_bytes()) => {
+            Some(script.as_str())
+        }
         _ => None,
     }
 }

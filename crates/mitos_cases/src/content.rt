@@ -1,5 +1,6 @@
 //! Bytes in their written form. A backslash begins an escape: `\\`, `\n`, `\r`, `\t`, `\xHH` for the byte of two hexadecimal
-//! digits, and `\{COUNT:PART\}` for a part that comes so many times.
+//! digits, and `\{COUNT:PART\}` for a part that comes so many times. In such a part `\+N;` is a number in decimal: N where the part
+//! comes first, and one more each time.
 use crate::wrong::Wrong;
 use std::alloc::Global;
 
@@ -38,7 +39,15 @@ struct Written {
 #[derive(Drop)]
 struct Repeated {
     times: u32,
-    part: Vec<u8>,
+    part: Vec<Piece>,
+}
+
+// A piece of a repeated part.
+#[derive(Clone, Copy, Debug, PartialEq, Eq)]
+enum Piece {
+    Byte(u8),
+    /// The decimal digits of a number, which is this one where the part comes first.
+    Number(u32),
 }
 
 // Where the reading stands.
@@ -53,6 +62,8 @@ enum State {
     HexAfter(u8),
     /// After `\{`, and the digits of this number.
     Count(Option<u32>),
+    /// After `\+`, and the digits of this number.
+    Number(Option<u32>),
 }
 
 impl Written {
@@ -79,6 +90,8 @@ impl Written {
             State::HexAfter(high) => self.put(high.wrapping_mul(16) | hexadecimal(byte)?),
             State::Count(Some(times)) if byte == b':' => self.repeat(times),
             State::Count(count) => Ok(State::Count(Some(longer(count, byte)?))),
+            State::Number(Some(first)) if byte == b';' => self.put_number(first),
+            State::Number(first) => Ok(State::Number(Some(longer(first, byte)?))),
         }
     }
 
@@ -90,6 +103,7 @@ impl Written {
             b't' => self.put(b'\t'),
             b'x' => Ok(State::Hex),
             b'{' => Ok(State::Count(None)),
+            b'+' => Ok(State::Number(None)),
             b'}' => self.put_repeated(),
             _ => Err(Wrong::NoEscape),
         }
@@ -97,7 +111,7 @@ impl Written {
 
     fn put(&mut self, byte: u8) -> Result<State, Wrong> {
         match &mut self.repeated {
-            Some(repeated) => repeated.part.push(byte)?,
+            Some(repeated) => repeated.part.push(Piece::Byte(byte))?,
             None => self.bytes.push(byte)?,
         }
         Ok(State::Plain)
@@ -115,15 +129,39 @@ impl Written {
         Ok(State::Plain)
     }
 
+    // Puts a number into the repeated part.
+    fn put_number(&mut self, first: u32) -> Result<State, Wrong> {
+        match &mut self.repeated {
+            Some(repeated) => repeated.part.push(Piece::Number(first))?,
+            None => return Err(Wrong::Uncounted),
+        }
+        Ok(State::Plain)
+    }
+
     // Ends the repeated part.
     fn put_repeated(&mut self) -> Result<State, Wrong> {
         let Some(repeated) = self.repeated.take() else {
             return Err(Wrong::Nested);
         };
-        for _ in 0..repeated.times {
-            self.bytes.extend_from_slice(&repeated.part)?;
+        for time in 0..repeated.times {
+            self.put_part(&repeated.part, time)?;
         }
         Ok(State::Plain)
+    }
+
+    // Puts a repeated part, before which it came so often.
+    fn put_part(&mut self, part: &[Piece], time: u32) -> Result<(), Wrong> {
+        for piece in part {
+            match piece {
+                Piece::Byte(byte) => self.bytes.push(*byte)?,
+                Piece::Number(first) => {
+                    let number = u64::from(*first) + u64::from(time);
+                    let digits = format!(in self.alloc; "{number}")?;
+                    self.bytes.extend_from_slice(digits.as_bytes())?;
+                }
+            }
+        }
+        Ok(())
     }
 
     fn finish(self) -> Result<Vec<u8>, Wrong> {

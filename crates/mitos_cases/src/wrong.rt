@@ -43,6 +43,8 @@ pub(crate) enum Wrong {
     Unfinished,
     #[error("a repeated part stands in another one, or has no beginning")]
     Nested,
+    #[error("a number that is counted stands in no repeated part")]
+    Uncounted,
     #[error("it is stated twice, or in two ways")]
     Twice,
     #[error("no words are stated")]

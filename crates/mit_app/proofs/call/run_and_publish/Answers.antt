@@ -6,7 +6,7 @@ use Rattle.mit_app.proofs.call.run_and_publish.Goals as goal
 
 pub returns-in-Err-run-clause-ends : goal.returns-in-Err-run-clause-ends
 returns-in-Err-run-clause-ends g c = λ files agrees.
-    running_ends g.O.Outbox.held task.Run c.args.name.now files c.args.outbox.now (g.C.Console.written c.args.console.now) c.in-Ok.typed.script c.in-Err-run.halt
+    running_ends g.O.Outbox.held task.Run c.args.name.now files c.args.outbox.now (g.C.Console.written c.args.console.now) c.in-Ok.typed.script c.in-Ok.typed.types c.in-Err-run.halt
     (Rose (g.F.Folder.faults c.read_script.new.folder) (g.F.Folder.faults c.run.new.folder)) c.in-Err-run.ensures.failed
     (c.in-Ok.ensures.found files (c.run.ensures.grows files agrees)) (c.in-Err-run.ensures.ran files agrees)
 
@@ -18,7 +18,7 @@ returns-in-Err-run-clause-agrees g c =
 pub returns-clause-ends : goal.returns-clause-ends
 returns-clause-ends g c = λ files agrees.
     publishing_ends g.O.Outbox.held task.Run c.args.name.now files c.args.outbox.now c.publish.new.outbox (g.C.Console.written c.args.console.now)
-    (g.C.Console.written c.publish.new.console) c.in-Ok.typed.script c.in-Ok-run.ran c.publish.result
+    (g.C.Console.written c.publish.new.console) c.in-Ok.typed.script c.in-Ok.typed.types c.in-Ok-run.ran c.publish.result
     (c.in-Ok.ensures.found files (c.run.ensures.grows files agrees)) (c.in-Ok-run.ensures.ran files agrees) c.publish.ensures.published
 
 pub returns-clause-agrees : goal.returns-clause-agrees

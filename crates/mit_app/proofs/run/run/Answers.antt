@@ -20,7 +20,7 @@ pub returns-in-Ok-told-clause-ran : goal.returns-in-Ok-told-clause-ran
 returns-in-Ok-told-clause-ran g c = λ files agrees.
     let typed = c.args.typed.now in
     let gives : thin_steps typed.script ≡ Some c.in-Ok-Some.script = ap thin_steps (sym c.script.ensures.value) ∙ sym c.in-Ok-Some.ensures ∙ c.in-Ok-Some.field-0-is in
-    ended_runs typed.script files c.in-Ok-Some.script c.in-Ok.done c.in-Ok-told.ran gives
+    ended_runs typed.script typed.types files c.in-Ok-Some.script c.in-Ok.done c.in-Ok-told.ran gives
     (thin_means c.bags_are_sorted_lists.ensures.sorted c.bags_are_sorted_lists.ensures.parts typed.script typed.types c.in-Ok-Some.script files DECISIONS typed.formed c.requires
     typed.accepted gives)
     (c.in-Ok.ensures.answer files agrees) c.in-Ok-told.ensures.files c.in-Ok-told.ensures.report
@@ -29,7 +29,7 @@ pub returns-in-Err-Fault-clause-ran : goal.returns-in-Err-Fault-clause-ran
 returns-in-Err-Fault-clause-ran g c = λ files agrees.
     let typed = c.args.typed.now in
     let gives : thin_steps typed.script ≡ Some c.in-Ok-Some.script = ap thin_steps (sym c.script.ensures.value) ∙ sym c.in-Ok-Some.ensures ∙ c.in-Ok-Some.field-0-is in
-    faulty_runs typed.script files c.in-Ok-Some.script c.in-Err-Fault.fault gives
+    faulty_runs typed.script typed.types files c.in-Ok-Some.script c.in-Err-Fault.fault gives
     (thin_means c.bags_are_sorted_lists.ensures.sorted c.bags_are_sorted_lists.ensures.parts typed.script typed.types c.in-Ok-Some.script files DECISIONS typed.formed c.requires
     typed.accepted gives)
     (rw c.in-Err-Fault.field-0-is at c.in-Err-Fault.ensures.answer files agrees)
