@@ -2,6 +2,18 @@
 #![tactic(auto)]
 
 #[cfg(test)]
+mod applied;
+#[cfg(test)]
+mod endings;
+#[cfg(test)]
+mod meant;
+#[cfg(test)]
 mod plans;
 #[cfg(test)]
 mod scripts;
+#[cfg(test)]
+mod valid;
+#[cfg(test)]
+mod whole;
+#[cfg(test)]
+mod worth;

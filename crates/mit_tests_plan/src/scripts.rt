@@ -113,6 +113,8 @@ fn a_script_has_its_plan(rt: HostRuntime) {
         let plan = plan_of(rt.alloc(), &typed(&rt, script)).expect(&rt, "a plan");
         let found = plan_text(&rt, &plan);
         assert!(&rt; found.as_str() == due, "{script}: {found}");
+        let valid = plan.validate(rt.alloc()).expect(&rt, "memory");
+        assert!(&rt; valid, "{script}");
     }
 }
 
