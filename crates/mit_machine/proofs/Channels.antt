@@ -7,12 +7,12 @@ use Rattle.mit_machine.specs.Offers.{bags_under_way, blocks_under_way, is_enable
 use Rattle.mit_machine.specs.Places.{own_places}
 use Rattle.mit_machine.specs.Runs.{Runs}
 use Rattle.mit_machine.specs.State.{Action, Machine, State, after, hear, learn, poll, take_bag}
-use Rattle.mit_machine.proofs.Fed.{sent_learn, sent_poll}
+use Rattle.mit_machine.proofs.Fed.{sent_later}
 use Rattle.mit_machine.proofs.Lengthens.{Lengthens, lengthens_drop, lengthens_none, lengthens_take}
+use Rattle.mit_machine.proofs.Monotone.{released_later}
 use Rattle.mit_machine.proofs.Offered.{offered_enabled}
 use Rattle.mit_machine.proofs.Raised.{raised_bag_tells, raised_in_cases, raised_in_tells, raised_tells}
 use Rattle.mit_machine.proofs.Settling.{FateLaws}
-use Rattle.mit_machine.proofs.Validity.{released_later}
 
 first_gone : (n : ℕ) (xs : List ℕ) → Moves true (drop n xs) (drop (n + 1) xs)
 first_gone n xs = ([], sym (drop-drop 1 n xs) ∙ sym (append-nil (drop 1 (drop n xs))))
@@ -49,15 +49,11 @@ reports_move machine state (poll other from) op part =
 
 -- ---- the bags
 
-bags_learn : FateLaws → (machine : Machine) (state : State) (part edge from to : ℕ) → Runs machine → is_enabled machine state (learn part) ≡ true
-    → Lengthens (bags_under_way machine state edge from to) (bags_under_way machine (after (learn part) state) edge from to)
-bags_learn laws machine state part edge from to runs enabled =
-    lengthens_drop (state.taken edge from to) (sent_in machine state edge from to) (sent_in machine (after (learn part) state) edge from to)
-    (sent_learn laws machine state part edge from to runs enabled)
-
-bags_poll : (machine : Machine) (state : State) (op part edge from to : ℕ) → Lengthens (bags_under_way machine state edge from to) (bags_under_way machine (after (poll op part) state) edge from to)
-bags_poll machine state op part edge from to =
-    lengthens_drop (state.taken edge from to) (sent_in machine state edge from to) (sent_in machine (after (poll op part) state) edge from to) (sent_poll machine state op part edge from to)
+bags_longer : FateLaws → (machine : Machine) (state : State) (action : Action) (edge from to : ℕ) → Runs machine → is_enabled machine state action ≡ true
+    → let taken = state.taken edge from to in Lengthens (drop taken (sent_in machine state edge from to)) (drop taken (sent_in machine (after action state) edge from to))
+bags_longer laws machine state action edge from to runs enabled =
+    lengthens_drop (state.taken edge from to) (sent_in machine state edge from to) (sent_in machine (after action state) edge from to)
+    (sent_later laws machine state action edge from to runs enabled)
 
 bags_take : (machine : Machine) (state : State) (edge from to other sender receiver : ℕ)
     → Moves (is_take other sender receiver (take_bag edge from to)) (bags_under_way machine state other sender receiver) (bags_under_way machine (after (take_bag edge from to) state) other sender receiver)
@@ -71,7 +67,7 @@ pub bags_move : FateLaws → (machine : Machine) (state : State) (action : Actio
 bags_move laws machine state action edge from to runs is = by_action action (offered_enabled machine state action is)
   where
     by_action : (one : Action) → is_enabled machine state one ≡ true → Moves (is_take edge from to one) (bags_under_way machine state edge from to) (bags_under_way machine (after one state) edge from to)
-    by_action (learn part) enabled = bags_learn laws machine state part edge from to runs enabled
-    by_action (hear op part) enabled = lengthens_none (bags_under_way machine state edge from to)
+    by_action (learn part) enabled = bags_longer laws machine state (learn part) edge from to runs enabled
+    by_action (hear op part) enabled = bags_longer laws machine state (hear op part) edge from to runs enabled
     by_action (take_bag other sender receiver) enabled = bags_take machine state other sender receiver edge from to
-    by_action (poll op part) enabled = bags_poll machine state op part edge from to
+    by_action (poll op part) enabled = bags_longer laws machine state (poll op part) edge from to runs enabled

@@ -15,21 +15,25 @@ use Rattle.mit_plan.specs.Chosen.{Choice, choice_of, chosen, chosen_among, input
 use Rattle.mit_plan.specs.Plans.{PlanOf, edge_at, edges_to, is_phi, op_at, source_block, target_block}
 use Rattle.mit_plan.specs.Valid.{Chooses, EdgesGoUp, InputsHaveEdges, source_blocks}
 use Rattle.mit_machine.specs.Channels.{fate_of, is_complete, siblings_of}
-use Rattle.mit_machine.proofs.Searches.{any_of_filter}
+use Rattle.mit_machine.proofs.Lists.{any_of_filter}
 use Rattle.mit_machine.proofs.Standing.{LeadsTo, edges_lead}
 
--- the laws of choice and fate over blocks
-pub record PathLaws : Type 0 where
-  pub longer : (path more operands : List ℕ) (at : ℕ) (phi : Bool) → at < length path → chosen_operand (path ++ more) operands at phi ≡ chosen_operand path operands at phi
+-- the laws of choice over blocks
+pub record ChoiceLaws : Type 0 where
   pub input : (path operands : List ℕ) (at : ℕ) → MatchOption (chosen_operand path operands at false) (HasNone path operands (suc at)) (IsLast path operands (suc at))
   pub phi : (path operands : List ℕ) (at : ℕ) → MatchOption (chosen_operand path operands at true) (HasNone path operands at) (IsLast path operands at)
+
+-- and those of longer paths and fates
+pub record PathLaws : Type 0 where
+  pub choices : ChoiceLaws
+  pub longer : (path more operands : List ℕ) (at : ℕ) (phi : Bool) → at < length path → chosen_operand (path ++ more) operands at phi ≡ chosen_operand path operands at phi
   pub sent : (path operands siblings : List ℕ) (at operand place : ℕ) (phi complete : Bool) → at < length path
       → ((sibling : ℕ) → is_among siblings sibling ≡ true → is_among operands sibling ≡ true) → chosen_operand path operands at phi ≡ Some (operand, place)
       → fate path (get_or path place 0) place (get_or path at 0) siblings phi complete ≡ Send
 
 -- ---- one choice
 
-abbrev blocks_of : PlanOf → List ℕ → List ℕ
+abbrev pub blocks_of : PlanOf → List ℕ → List ℕ
 blocks_of plan edges = map (λ edge. source_block plan (edge_at plan edge)) edges
 
 -- an operand of a block, by its number
@@ -45,15 +49,15 @@ operand_at (one ∷ more) block from operand is = by_test (eqb block one) refl i
     by_test false same is rest = let found = rest is in (suc found.0, omega (arith, found.1), omega (arith, found.2), found.3)
 
 -- the bag of a place, over one of these edges, from the block there
-record IsChosen (plan : PlanOf) (path edges : List ℕ) (phi : Bool) (at : ℕ) (choice : Choice) : Type 0 where
-  operand : ℕ
-  found : chosen_operand path (blocks_of plan edges) at phi ≡ Some (operand, choice.place)
-  inside : operand < length edges
-  edge : choice.edge ≡ get_or edges operand 0
-  block : source_block plan (edge_at plan choice.edge) ≡ get_or path choice.place 0
-  before : choice.place < cond phi at (suc at)
+pub record IsChosen (plan : PlanOf) (path edges : List ℕ) (phi : Bool) (at : ℕ) (choice : Choice) : Type 0 where
+  pub operand : ℕ
+  pub found : chosen_operand path (blocks_of plan edges) at phi ≡ Some (operand, choice.place)
+  pub inside : operand < length edges
+  pub edge : choice.edge ≡ get_or edges operand 0
+  pub block : source_block plan (edge_at plan choice.edge) ≡ get_or path choice.place 0
+  pub before : choice.place < cond phi at (suc at)
 
-choice_last : PathLaws → (path operands : List ℕ) (at : ℕ) (phi : Bool) → MatchOption (chosen_operand path operands at phi) (HasNone path operands (cond phi at (suc at))) (IsLast path operands (cond phi at (suc at)))
+choice_last : ChoiceLaws → (path operands : List ℕ) (at : ℕ) (phi : Bool) → MatchOption (chosen_operand path operands at phi) (HasNone path operands (cond phi at (suc at))) (IsLast path operands (cond phi at (suc at)))
 choice_last laws path operands at true = laws.phi path operands at
 choice_last laws path operands at false = laws.input path operands at
 
@@ -76,7 +80,7 @@ chosen_by plan path edges phi at choice (Some one) found last is =
       before = last.below;
     })
 
-is_chosen : PathLaws → (plan : PlanOf) (path edges : List ℕ) (phi : Bool) (at : ℕ) (choice : Choice) → chosen_among plan path edges phi at ≡ Some choice → IsChosen plan path edges phi at choice
+is_chosen : ChoiceLaws → (plan : PlanOf) (path edges : List ℕ) (phi : Bool) (at : ℕ) (choice : Choice) → chosen_among plan path edges phi at ≡ Some choice → IsChosen plan path edges phi at choice
 is_chosen laws plan path edges phi at choice is =
     chosen_by plan path edges phi at choice (chosen_operand path (blocks_of plan edges) at phi) refl (choice_last laws path (blocks_of plan edges) at phi) is
 
@@ -147,7 +151,7 @@ pub record IsSource (plan : PlanOf) (path : List ℕ) (op at : ℕ) (choice : Ch
   pub block : (op_at plan (edge_at plan choice.edge).from).block ≡ get_or path choice.place 0
   pub before : (choice.place < at) ⊎ ((choice.place ≡ at) × ((op_at plan (edge_at plan choice.edge).from).index < (op_at plan op).index))
 
-chosen_edges : PathLaws → (plan : PlanOf) (path : List ℕ) (op input at : ℕ) (choice : Choice) → chosen plan path op input at ≡ Some choice
+pub chosen_edges : ChoiceLaws → (plan : PlanOf) (path : List ℕ) (op input at : ℕ) (choice : Choice) → chosen plan path op input at ≡ Some choice
     → IsChosen plan path (get_or (input_edges plan op) input []) (is_phi (op_at plan op)) at choice
 chosen_edges laws plan path op input at choice is = is_chosen laws plan path (get_or (input_edges plan op) input []) (is_phi (op_at plan op)) at choice is
 
@@ -158,7 +162,7 @@ chosen_leads plan path op input at choice one =
 pub chosen_source : PathLaws → (plan : PlanOf) (path : List ℕ) (op input at : ℕ) (choice : Choice) → InputsHaveEdges plan → EdgesGoUp plan → (op_at plan op).block ≡ get_or path at 0
     → chosen plan path op input at ≡ Some choice → IsSource plan path op at choice
 chosen_source laws plan path op input at choice inputs upward own is =
-    let one = chosen_edges laws plan path op input at choice is in
+    let one = chosen_edges laws.choices plan path op input at choice is in
     let lead = chosen_leads plan path op input at choice one in
     record { lead = lead; from = (inputs.name choice.edge lead.below).from; block = one.block; before = by_place one lead (is_phi (op_at plan op)) refl one.before (cases_lt choice.place at) }
   where
@@ -179,10 +183,10 @@ chosen_source laws plan path op input at choice inputs upward own is =
 -- ---- it is sent
 
 -- the siblings of an edge are among the blocks of its input's edges
-siblings_within : (plan : PlanOf) (op input edge : ℕ) → LeadsTo plan op edge → 0 < length (get_or (input_edges plan op) input [])
+pub siblings_within : (plan : PlanOf) (op input edge : ℕ) → (edge_at plan edge).to ≡ op → 0 < length (get_or (input_edges plan op) input [])
     → (sibling : ℕ) → is_among (siblings_of plan edge) sibling ≡ true → is_among (blocks_of plan (get_or (input_edges plan op) input [])) sibling ≡ true
-siblings_within plan op input edge lead some sibling among =
-    by_kind (is_phi (op_at plan op)) refl (subst (λ (to : ℕ). is_among (cond (is_phi (op_at plan to)) (filter (λ block. not (block == source_block plan (edge_at plan edge))) (source_blocks plan to)) []) sibling ≡ true) lead.to among)
+siblings_within plan op input edge leads some sibling among =
+    by_kind (is_phi (op_at plan op)) refl (subst (λ (to : ℕ). is_among (cond (is_phi (op_at plan to)) (filter (λ block. not (block == source_block plan (edge_at plan edge))) (source_blocks plan to)) []) sibling ≡ true) leads among)
   where
     by_kind : (phi : Bool) → is_phi (op_at plan op) ≡ phi
         → is_among (cond phi (filter (λ block. not (block == source_block plan (edge_at plan edge))) (source_blocks plan op)) []) sibling ≡ true
@@ -200,7 +204,7 @@ chosen_sends laws plan path op input at seen choice below viewed own is =
     ap₂ (λ (source target : ℕ). fate view source choice.place target siblings (is_phi (op_at plan (edge_at plan choice.edge).to)) complete) source target
     ∙ ap (λ (to : ℕ). fate view (get_or view choice.place 0) choice.place (get_or view at 0) siblings (is_phi (op_at plan to)) complete) lead.to
     ∙ laws.sent view blocks siblings at one.operand choice.place (is_phi (op_at plan op)) complete has
-    (siblings_within plan op input choice.edge lead (omega (arith, one.inside))) found
+    (siblings_within plan op input choice.edge lead.to (omega (arith, one.inside))) found
   where
     view : List ℕ
     view = take seen path
@@ -215,7 +219,7 @@ chosen_sends laws plan path op input at seen choice below viewed own is =
     blocks = blocks_of plan (get_or (input_edges plan op) input [])
 
     one : IsChosen plan path (get_or (input_edges plan op) input []) (is_phi (op_at plan op)) at choice
-    one = chosen_edges laws plan path op input at choice is
+    one = chosen_edges laws.choices plan path op input at choice is
 
     lead : LeadsTo plan op choice.edge
     lead = chosen_leads plan path op input at choice one

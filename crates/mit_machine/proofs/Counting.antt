@@ -10,12 +10,14 @@ use Rattle.mit_plan.specs.Bound.{most_actions, most_places}
 use Rattle.mit_plan.specs.Plans.{edge_at, op_at}
 use Rattle.mit_machine.specs.Channels.{fate_of, is_send, is_target, made_places, sent_places}
 use Rattle.mit_machine.specs.Offers.{offered, released_in}
-use Rattle.mit_machine.specs.Places.{Reports, heard_by, known_from, leads_on, makes, own_places}
+use Rattle.mit_machine.specs.Places.{heard_by, makes, own_places}
 use Rattle.mit_machine.specs.Runs.{IsValid, Runs, sum_over, total}
 use Rattle.mit_machine.specs.State.{Action, Machine, State, after, hear, learn, poll, raised, raised_in, take_bag}
+use Rattle.mit_machine.proofs.Fronts.{known_most}
 use Rattle.mit_machine.proofs.Offered.{IsWithin, offered_within}
-use Rattle.mit_machine.proofs.Places.{filter_shorter, places_shorter}
-use Rattle.mit_machine.proofs.Unfinished.{path_length}
+use Rattle.mit_machine.proofs.Lists.{filter_shorter}
+use Rattle.mit_machine.proofs.Places.{places_shorter}
+use Rattle.mit_machine.proofs.WholePaths.{path_length}
 
 -- ---- sums
 
@@ -99,17 +101,8 @@ offered_counts machine state action is = one_more machine state action (offered_
 
 -- ---- how far each counter goes
 
-known_most : (machine : Machine) (reports : Reports) (place : ℕ) (path : List ℕ) → known_from machine reports place path ≤ place + length path
-unfolding known_from
-known_most machine reports place [] = omega arith
-known_most machine reports place (block ∷ path) = by_test (leads_on machine reports place block) (known_most machine reports (place + 1) path)
-  where
-    by_test : (leads : Bool) → known_from machine reports (place + 1) path ≤ (place + 1) + length path → cond leads (known_from machine reports (place + 1) path) (place + 1) ≤ place + length (block ∷ path)
-    by_test true later = omega (arith, later)
-    by_test false later = omega arith
-
 released_most : (machine : Machine) (state : State) → released_in machine state ≤ length machine.history.path
-released_most machine state = omega (arith, known_most machine (heard_by machine state.heard) 0 machine.history.path)
+released_most machine state = omega (arith, known_most machine (heard_by machine state.heard))
 
 own_most : (machine : Machine) (op seen : ℕ) → length (own_places machine.job.plan (take seen machine.history.path) op) ≤ length machine.history.path
 own_most machine op seen =

@@ -1,9 +1,8 @@
 -- How a run ends is what the plan means.
-use Rattle.std.proofs.Common.{◌≡◌, ◌∙◌, ◌<◌, ◌≤◌, ◌+◌, ◌-◌, ℕ, zero, suc, List, [], length, map, take, get_or, ap, sym, subst, refl, arith, cond, eqb, eqb-true, ltb-true, ltb-false, inl, inr, Bool, true, false, Option, Some, None, Ok}
-use Rattle.std.specs.Prelude.{◌⊎◌, nat_lt, option_map}
+use Rattle.std.proofs.Common.{◌≡◌, ◌∙◌, ◌<◌, ◌≤◌, ◌+◌, ◌-◌, ℕ, zero, suc, List, [], length, map, take, get_or, ap, sym, subst, refl, arith, cond, eqb, ltb-true, ltb-false, Bool, true, false, Option, Some, None, Ok}
+use Rattle.std.specs.Prelude.{nat_lt, option_map}
 use Rattle.std.specs.List.{list_all, range_with_len}
-use Rattle.std.proofs.lemmas.Bool.{cases_lt}
-use Rattle.std.proofs.lemmas.List.{get_or-take, length-take-le, take_all}
+use Rattle.std.proofs.lemmas.List.{take_all}
 use Rattle.std.proofs.lemmas.List.FromFn.{get_or-map-range_with_len}
 use Rattle.mit_ops.specs.Answers.{BagOrFault, both, over}
 use Rattle.mit_ops.specs.Endings.{Ending, stopped}
@@ -11,21 +10,21 @@ use Rattle.mit_ops.specs.declared.faults.ScriptFault.{ScriptFault}
 use Rattle.mit_ops.specs.declared.leave.Leave.{Leave}
 use Rattle.mit_ops.specs.declared.leave.Leave.TheVariants.{Jump, Branch, End}
 use Rattle.mit_rows.specs.Bags.{BagOf}
-use Rattle.mit_plan.specs.Bound.{most_places}
 use Rattle.mit_plan.specs.Explained.{Explained}
-use Rattle.mit_plan.specs.Held.{History, Job, Part, decisions_before, failed, held, history_of, is_ok, ok, op_of, part, run, void}
+use Rattle.mit_plan.specs.Held.{History, Job, Part, decisions_before, failed, held, history_of, is_ok, ok, op_of, part, void}
 use Rattle.mit_plan.specs.Meant.{answer_in, at_end, ending_of, fault_at, fault_in, faults_of, first_or, last_block, pair}
 use Rattle.mit_plan.specs.Plans.{block_at, op_at}
-use Rattle.mit_plan.specs.Valid.{EdgesGoUp, RangesFollow}
+use Rattle.mit_plan.specs.Valid.{RangesFollow}
 use Rattle.mit_plan.specs.declared.plan.PlanBlock.{PlanBlock}
 use Rattle.mit_machine.specs.Offers.{parts_of}
-use Rattle.mit_machine.specs.Places.{Reports, all_done, front, front_index, heard_by, is_done, known}
+use Rattle.mit_machine.specs.Places.{Reports, front, front_index, heard_by, is_done, known}
 use Rattle.mit_machine.specs.Runs.{Runs, ended, ended_by, known_end}
 use Rattle.mit_machine.specs.State.{Machine, State}
-use Rattle.mit_machine.proofs.Done.{all_in, done_makes, front_done, front_open, front_within, known_some, known_within, open_below, open_done}
-use Rattle.mit_machine.proofs.Followed.{LeavesOn, last_goes_on}
 use Rattle.mit_machine.proofs.Found.{Begins, IsFirst, Nothing, first_found, nothing_found}
-use Rattle.mit_machine.proofs.Ranges.{named}
+use Rattle.mit_machine.proofs.Fronts.{done_before, done_in, front_is, known_most}
+use Rattle.mit_machine.proofs.KnownEnds.{all_known}
+use Rattle.mit_machine.proofs.Standing.{names}
+use Rattle.mit_machine.proofs.WholePaths.{PartsExplained, explained_is}
 
 -- ---- what is done is without fault
 
@@ -62,56 +61,31 @@ done_no_fault : (machine : Machine) (reports : Reports) (place index : ℕ) → 
     → index < (block_at machine.job.plan (get_or machine.history.path place 0)).count
     → is_done machine reports (op_of machine.job.plan machine.history.path place index) place ≡ true → fault_at machine.job.plan machine.history (pair place index) ≡ None
 done_no_fault machine reports place index facts below stands done =
-    let own = named machine.job.plan (get_or machine.history.path place 0) index facts.ranges stands in
+    let own = names machine.job.plan (get_or machine.history.path place 0) index facts.ranges stands in
     ok_no_fault machine.job machine.history place index facts.explained below stands
     (λ p less. ap (λ (n : ℕ). is_ok (held machine.history place n p)) (sym own.index_is)
-    ∙ done_makes machine reports (op_of machine.job.plan machine.history.path place index) place p done less)
+    ∙ (done_in machine reports (op_of machine.job.plan machine.history.path place index) place p less done).1)
 
-place_no_fault : (machine : Machine) (reports : Reports) (place : ℕ) → Facts machine → place < length machine.history.path
-    → all_done machine reports place (get_or machine.history.path place 0) ≡ true → Nothing (fault_at machine.job.plan machine.history) machine.job.plan machine.history.path place
-place_no_fault machine reports place facts below done index stands =
-    let block = block_at machine.job.plan (get_or machine.history.path place 0) in
-    done_no_fault machine reports place index facts below stands
-    (all_in (λ op. is_done machine reports op place) block.first block.count (block.first + index) done (omega arith) (omega (arith, stands)))
+-- ---- the front
 
--- ---- before the front
-
--- a place before the front is known
-front_before_known : (machine : Machine) (reports : Reports) → front machine reports ≤ length (take (known machine reports) machine.history.path)
-front_before_known machine reports = omega (arith, front_within machine reports 0 (take (known machine reports) machine.history.path))
-
-known_size : (machine : Machine) (reports : Reports) → length (take (known machine reports) machine.history.path) ≡ known machine reports
-known_size machine reports = length-take-le (known machine reports) machine.history.path (omega (arith, known_within machine reports 0 machine.history.path))
-
-before_front : (machine : Machine) (reports : Reports) (place : ℕ) → Facts machine → place < front machine reports
+before_front : (machine : Machine) (reports : Reports) (place : ℕ) → Facts machine → place < front machine reports → place < known machine reports
     → Nothing (fault_at machine.job.plan machine.history) machine.job.plan machine.history.path place
-before_front machine reports place facts below =
-    let size = known_size machine reports in
-    let less : place < known machine reports = omega (arith, below, front_before_known machine reports, size) in
-    let same = get_or-take (known machine reports) machine.history.path place 0 less in
-    place_no_fault machine reports place facts (omega (arith, less, known_within machine reports 0 machine.history.path))
-    (ap (all_done machine reports place) (sym same) ∙ front_done machine reports 0 (take (known machine reports) machine.history.path) place place (omega arith) below)
+before_front machine reports place facts less below index stands =
+    let own = names machine.job.plan (get_or machine.history.path place 0) index facts.ranges stands in
+    done_no_fault machine reports place index facts (omega (arith, below, known_most machine reports)) stands
+    (done_before machine reports place (op_of machine.job.plan machine.history.path place index) facts.ranges less below own.below own.block_is)
 
--- ---- the fault of the front
-
+-- the fault of the front is the first one
 front_first : (machine : Machine) (reports : Reports) (fault : ScriptFault) → Facts machine → front machine reports < known machine reports
     → fault_at machine.job.plan machine.history (pair (front machine reports) (front_index machine reports)) ≡ Some fault
     → IsFirst (fault_at machine.job.plan machine.history) machine.job.plan machine.history.path (front machine reports) (front_index machine reports) fault
 front_first machine reports fault facts below found =
-    let place = front machine reports in
-    let block = block_at machine.job.plan (get_or machine.history.path place 0) in
-    let size = known_size machine reports in
-    let within : place < length machine.history.path = omega (arith, below, known_within machine reports 0 machine.history.path) in
-    let same = get_or-take (known machine reports) machine.history.path place 0 below in
-    let undone : all_done machine reports place (get_or machine.history.path place 0) ≡ false =
-    ap (all_done machine reports place) (sym same)
-    ∙ front_open machine reports 0 (take (known machine reports) machine.history.path) place place (omega arith) refl (omega (arith, below, size)) in
-    let stands : front_index machine reports < block.count = omega (arith, open_below machine reports place 0 block.first block.count undone) in
+    let is = front_is machine reports facts.ranges below in
     record {
-      stands = stands;
-      places = λ earlier less. before_front machine reports earlier facts less;
-      indexes = λ earlier less. done_no_fault machine reports place earlier facts within (omega (arith, less, stands))
-          (open_done machine reports place 0 block.first block.count earlier (block.first + earlier) refl (omega (arith, less)));
+      stands = is.stands;
+      places = λ earlier less. before_front machine reports earlier facts less (omega (arith, less, below));
+      indexes = λ earlier less.
+          done_no_fault machine reports (front machine reports) earlier facts is.entered (omega (arith, less, is.stands)) (is.lower earlier less);
       found = found;
     }
 
@@ -124,36 +98,9 @@ front_ends machine reports fault facts below found =
     let last = last_block machine.job.plan machine.history.path in
     begins_stopped (faults_of machine.job machine.history) fault (at_end machine.job machine.history last last.leave)
     (first_found (fault_at machine.job.plan machine.history) machine.job.plan machine.history.path (front machine reports) (front_index machine reports) fault
-    (omega (arith, below, known_within machine reports 0 machine.history.path)) (front_first machine reports fault facts below found))
+    (omega (arith, below, known_most machine reports)) (front_first machine reports fault facts below found))
 
 -- ---- the end of the path
-
--- a run does not end at a block that has a next one
-no_end : (machine : Machine) (path : List ℕ) (block : PlanBlock) (leave : Leave) (ending : Ending) → known_end machine path block leave ≡ Some ending
-    → LeavesOn machine.job (decisions_before machine.job.plan path (length path - 1)) leave → ⊥
-no_end machine path block (Jump next) ending is on = absurd cc
-no_end machine path block End ending is on = on
-no_end machine path block (Branch on_true on_false) ending is on =
-    by_test (eqb (decisions_before machine.job.plan path (length path - 1)) machine.job.decisions) refl is
-  where
-    by_test : (test : Bool) → eqb (decisions_before machine.job.plan path (length path - 1)) machine.job.decisions ≡ test
-        → cond test (Some (at_end machine.job machine.history block (Branch on_true on_false))) None ≡ Some ending → ⊥
-    by_test true same is = omega (arith, eqb-true (decisions_before machine.job.plan path (length path - 1)) machine.job.decisions same, on)
-    by_test false same is = absurd cc
-
--- where a run ends with everything done, the whole path is known
-whole_known : (machine : Machine) (reports : Reports) (ending : Ending) → Runs machine
-    → known_end machine (take (known machine reports) machine.history.path) (last_block machine.job.plan (take (known machine reports) machine.history.path))
-    (last_block machine.job.plan (take (known machine reports) machine.history.path)).leave ≡ Some ending
-    → length machine.history.path ≤ known machine reports
-whole_known machine reports ending runs is = by_order (cases_lt (known machine reports) (length machine.history.path))
-  where
-    by_order : (known machine reports < length machine.history.path) ⊎ (length machine.history.path ≤ known machine reports) → length machine.history.path ≤ known machine reports
-    by_order (inr past) = past
-    by_order (inl below) =
-        let path = take (known machine reports) machine.history.path in
-        absurd (no_end machine path (last_block machine.job.plan path) (last_block machine.job.plan path).leave ending is
-        (last_goes_on machine (known machine reports) runs (known_some machine reports 0 machine.history.path (omega (arith, below))) below))
 
 end_is : (machine : Machine) (block : PlanBlock) (leave : Leave) (ending : Ending) → known_end machine machine.history.path block leave ≡ Some ending
     → ending ≡ at_end machine.job machine.history block leave
@@ -174,10 +121,10 @@ path_ends : (machine : Machine) (reports : Reports) (ending : Ending) → Runs m
 path_ends machine reports ending runs facts done is =
     let plan = machine.job.plan in
     let path = machine.history.path in
-    let all = whole_known machine reports ending runs is in
-    let whole : take (known machine reports) path ≡ path = take_all (known machine reports) path all in
+    let all = all_known machine reports runs done in
+    let whole : take (known machine reports) path ≡ path = take_all (known machine reports) path (omega (arith, all)) in
     let none : faults_of machine.job machine.history ≡ [] =
-    nothing_found (fault_at plan machine.history) plan path (λ place below. before_front machine reports place facts (omega (arith, below, all, done))) in
+    nothing_found (fault_at plan machine.history) plan path (λ place below. before_front machine reports place facts (omega (arith, below, all, done)) (omega (arith, below, all))) in
     let last = last_block plan path in
     end_is machine last last.leave ending (subst (λ (some : List ℕ). known_end machine some (last_block plan some) (last_block plan some).leave ≡ Some ending) whole is)
     ∙ ap (λ (faults : List ScriptFault). first_or faults (at_end machine.job machine.history last last.leave)) (sym none)
@@ -215,10 +162,7 @@ ending_by machine reports ending runs facts is =
     by_test false less is = path_ends machine reports ending runs facts (ltb-false (front machine reports) (known machine reports) less) is
 
 -- the ending of a run
-pub ending_is : ((job : Job) (places : ℕ) → RangesFollow job.plan → EdgesGoUp job.plan → Explained job (run job places).history)
-    → (machine : Machine) (state : State) (ending : Ending) → Runs machine → ended machine state ≡ Some ending → ending ≡ ending_of machine.job (history_of machine.job)
+pub ending_is : PartsExplained → (machine : Machine) (state : State) (ending : Ending) → Runs machine → ended machine state ≡ Some ending → ending ≡ ending_of machine.job (history_of machine.job)
 ending_is rows machine state ending runs is =
-    let explained = subst (λ (history : History). Explained machine.job history) (sym runs.history)
-    (rows machine.job (most_places machine.job.plan machine.job.decisions) runs.plan.ranges runs.plan.upward) in
-    ending_by machine (heard_by machine state.heard) ending runs (record { explained = explained; ranges = runs.plan.ranges }) is
+    ending_by machine (heard_by machine state.heard) ending runs (record { explained = explained_is rows machine runs; ranges = runs.plan.ranges }) is
     ∙ ap (ending_of machine.job) runs.history

@@ -24,9 +24,9 @@ use Rattle.mit_machine.specs.Offers.{parts_of}
 use Rattle.mit_machine.specs.Places.{Reports, is_done, makes}
 use Rattle.mit_machine.specs.State.{Machine}
 use Rattle.mit_machine.proofs.Choosing.{PathLaws, one_edge}
-use Rattle.mit_machine.proofs.FrontInputs.{done_in, front_names, input_source, input_there, source_done}
-use Rattle.mit_machine.proofs.Fronts.{IsFront}
-use Rattle.mit_machine.proofs.Searches.{range_each, range_found}
+use Rattle.mit_machine.proofs.FrontInputs.{front_names, input_source, input_there, source_done}
+use Rattle.mit_machine.proofs.Fronts.{IsFront, done_in}
+use Rattle.mit_machine.proofs.Lists.{range_each, range_found}
 use Rattle.mit_machine.proofs.Standing.{LeadsTo, Names, edges_lead, input_is}
 
 -- ---- answers that are there

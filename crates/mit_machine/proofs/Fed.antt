@@ -1,6 +1,6 @@
 -- Which bags came stays so, and what was polled was polled after its bags had come.
-use Rattle.std.proofs.Common.{◌≡◌, ◌∙◌, ◌<◌, ◌≤◌, ◌+◌, ℕ, zero, suc, List, [], ◌∷◌, ◌++◌, length, take, ap, sym, subst, refl, arith, inl, inr, Bool, true, false, Option, Some, None}
-use Rattle.std.specs.Prelude.{◌==◌, ◌&&◌, ◌||◌, ◌⊎◌, nat_lt, slice_get}
+use Rattle.std.proofs.Common.{◌≡◌, ◌∙◌, ◌<◌, ◌≤◌, ◌+◌, ℕ, List, length, take, ap, sym, subst, arith, inl, inr, Bool, true, Option, Some, None}
+use Rattle.std.specs.Prelude.{◌==◌, ◌&&◌, ◌⊎◌, Contains, nat_lt, slice_get}
 use Rattle.std.specs.List.{list_all, list_any}
 use Rattle.std.proofs.lemmas.Bool.{and_parts, cases_lt}
 use Rattle.mit_plan.specs.Chosen.{Choice, chosen, input_numbers}
@@ -11,8 +11,8 @@ use Rattle.mit_machine.specs.Offers.{Bags, all_come, bags_of, can_poll, can_poll
 use Rattle.mit_machine.specs.Places.{is_among, makes, own_places}
 use Rattle.mit_machine.specs.Runs.{IsValid, Runs}
 use Rattle.mit_machine.specs.State.{Action, Machine, State, after, hear, learn, poll, take_bag}
-use Rattle.mit_machine.proofs.Lengthens.{Lengthens, lengthens_none}
-use Rattle.mit_machine.proofs.Monotone.{all_more, any_take}
+use Rattle.mit_machine.proofs.Lengthens.{Lengthens, lengthens_first, lengthens_none}
+use Rattle.mit_machine.proofs.Lists.{all_more, any_on, any_take, each_passes}
 use Rattle.mit_machine.proofs.Offered.{has_left_of_first}
 use Rattle.mit_machine.proofs.Raised.{raised_bag_cases, raised_cases, raised_in_cases}
 use Rattle.mit_machine.proofs.Settling.{FateLaws, sent_polled, sent_seen}
@@ -20,7 +20,7 @@ use Rattle.mit_machine.proofs.Settling.{FateLaws, sent_polled, sent_seen}
 -- ---- what was sent
 
 -- what was sent stays, in its order, as a block is learned
-pub sent_learn : FateLaws → (machine : Machine) (state : State) (part edge from to : ℕ) → Runs machine → is_enabled machine state (learn part) ≡ true
+sent_learn : FateLaws → (machine : Machine) (state : State) (part edge from to : ℕ) → Runs machine → is_enabled machine state (learn part) ≡ true
     → Lengthens (sent_in machine state edge from to) (sent_in machine (after (learn part) state) edge from to)
 sent_learn laws machine state part edge from to runs enabled =
     let polls = state.polls (edge_at machine.job.plan edge).from from in
@@ -29,13 +29,14 @@ sent_learn laws machine state part edge from to runs enabled =
     (λ same. sent_seen laws machine runs edge from to (state.seen from) polls (subst (λ (one : ℕ). state.seen one < length machine.history.path) (sym same) less.1))
 
 -- and as an operator is polled
-pub sent_poll : (machine : Machine) (state : State) (op part edge from to : ℕ) → Lengthens (sent_in machine state edge from to) (sent_in machine (after (poll op part) state) edge from to)
+sent_poll : (machine : Machine) (state : State) (op part edge from to : ℕ) → Lengthens (sent_in machine state edge from to) (sent_in machine (after (poll op part) state) edge from to)
 sent_poll machine state op part edge from to =
     let source = (edge_at machine.job.plan edge).from in
     let polls = state.polls source from in
     raised_in_cases op part source from state.polls (λ n. Lengthens (sent_in machine state edge from to) (sent_places machine edge from to (state.seen from) n))
     (lengthens_none (sent_in machine state edge from to)) (λ same by. sent_polled machine edge from to (state.seen from) polls (polls + 1) (omega arith))
 
+-- and with each action
 pub sent_later : FateLaws → (machine : Machine) (state : State) (action : Action) (edge from to : ℕ) → Runs machine → is_enabled machine state action ≡ true
     → Lengthens (sent_in machine state edge from to) (sent_in machine (after action state) edge from to)
 sent_later laws machine state (learn part) edge from to runs enabled = sent_learn laws machine state part edge from to runs enabled
@@ -53,21 +54,11 @@ taken_later state (poll op part) edge from to = omega arith
 
 -- ---- the bags that came
 
-any_longer : (test : ℕ → Bool) (count : ℕ) (xs ys : List ℕ) → list_any test (take count xs) ≡ true → list_any test (take count (xs ++ ys)) ≡ true
-any_longer test zero xs ys any = absurd cc
-any_longer test (suc count) [] ys any = absurd cc
-any_longer test (suc count) (x ∷ xs) ys any = by_first (test x) (any_longer test count xs ys) any
-  where
-    by_first : (first : Bool) → (list_any test (take count xs) ≡ true → list_any test (take count (xs ++ ys)) ≡ true)
-        → (first || list_any test (take count xs)) ≡ true → (first || list_any test (take count (xs ++ ys))) ≡ true
-    by_first true later found = refl
-    by_first false later found = later found
-
 among_longer : (few many : ℕ) (xs ys : List ℕ) (place : ℕ) → few ≤ many → Lengthens xs ys → is_among few xs place ≡ true → is_among many ys place ≡ true
 among_longer few many xs ys place below longer any =
     let test : ℕ → Bool = λ other. other == place in
-    ap (λ (places : List ℕ). list_any test (take many places)) longer.1
-    ∙ any_longer test many xs longer.0 (any_take test few many xs below any)
+    let taken = lengthens_first many xs ys longer in
+    ap (list_any test) taken.1 ∙ any_on test (take many xs) taken.0 (any_take test few many xs below any)
 
 -- each of these bags is one of those
 abbrev BagsMore : Bags → Bags → Type 0
@@ -137,3 +128,15 @@ fed_after laws machine state (poll other from) op part runs valid enabled =
         let can : is_enabled machine state (poll op part) ≡ true = ap (λ (one : ℕ). is_enabled machine state (poll one part)) same ∙ ap (λ (one : ℕ). is_enabled machine state (poll other one)) own ∙ enabled in
         all_come_more machine (bags_of machine state part) (bags_of machine (after (poll other from) state) part) op part place
         (bags_later laws machine state (poll other from) part runs enabled) (fed_poll machine state op part can (valid.fed op part) count place less is)
+
+-- what was polled had its bags from every sender
+pub fed_by_all : (machine : Machine) (state : State) (op part count place input from : ℕ) (choice : Choice) → IsValid machine state → count < state.polls op part
+    → slice_get (own_places machine.job.plan machine.history.path op) count ≡ Some place → Contains (input_numbers machine.job.plan op) input
+    → chosen machine.job.plan machine.history.path op input place ≡ Some choice → Contains (senders machine.job (edge_at machine.job.plan choice.edge) part) from
+    → bags_of machine state part choice.edge from choice.place ≡ true
+fed_by_all machine state op part count place input from choice valid less there has is sends =
+    let bags : Bags = bags_of machine state part in
+    let came = each_passes (λ one. has_come machine bags part (chosen machine.job.plan machine.history.path op one place)) (input_numbers machine.job.plan op) input
+    (valid.fed op part count place less there) has in
+    each_passes (λ one. bags choice.edge one choice.place) (senders machine.job (edge_at machine.job.plan choice.edge) part) from
+    (subst (λ (found : Option Choice). has_come machine bags part found ≡ true) is came) sends

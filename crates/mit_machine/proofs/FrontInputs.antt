@@ -1,24 +1,16 @@
 -- What the front's operator takes is done.
 use Rattle.std.proofs.Common.{◌≡◌, ◌∙◌, ◌<◌, ℕ, length, get_or, ap, arith, true, Some, inl, inr}
-use Rattle.std.specs.Prelude.{◌⊎◌, ◌&&◌}
-use Rattle.std.proofs.lemmas.Bool.{and_parts}
+use Rattle.std.specs.Prelude.{◌⊎◌}
 use Rattle.mit_plan.specs.Chosen.{Choice, chosen, input_edges}
 use Rattle.mit_plan.specs.Held.{op_of}
 use Rattle.mit_plan.specs.Paths.{IsPath}
 use Rattle.mit_plan.specs.Plans.{edge_at, op_at}
 use Rattle.mit_plan.specs.Valid.{IsValid as IsValidPlan}
-use Rattle.mit_machine.specs.Places.{Reports, is_done, makes}
+use Rattle.mit_machine.specs.Places.{Reports, is_done}
 use Rattle.mit_machine.specs.State.{Machine}
 use Rattle.mit_machine.proofs.Choosing.{IsSource, PathLaws, chosen_source, chosen_there}
 use Rattle.mit_machine.proofs.Fronts.{IsFront}
-use Rattle.mit_machine.proofs.Searches.{range_each}
 use Rattle.mit_machine.proofs.Standing.{Names, names, stands_in}
-
--- what is done was heard from each partition, and is ok there
-pub done_in : (machine : Machine) (reports : Reports) (op place part : ℕ) → part < machine.job.partitions → is_done machine reports op place ≡ true → (reports op place part ≡ true) × (makes machine op place part ≡ true)
-done_in machine reports op place part some done =
-    and_parts (reports op place part) (makes machine op place part)
-    (range_each (λ part. reports op place part && makes machine op place part) 0 machine.job.partitions part done (omega arith) (omega (arith, some)))
 
 -- the front's operator, by its number
 pub front_names : (machine : Machine) (reports : Reports) (place index : ℕ) → IsValidPlan machine.job.plan → IsFront machine reports place index

@@ -1,36 +1,39 @@
 -- The front: what is done before it, and the operator there that isn't.
 use Rattle.std.proofs.Common.{◌≡◌, ◌∙◌, ◌<◌, ◌≤◌, ◌+◌, ◌-◌, ℕ, zero, suc, List, [], ◌∷◌, length, take, get_or, ap, sym, refl, arith, cond, Bool, true, false, inl, inr}
-use Rattle.std.specs.Prelude.{◌⊎◌}
+use Rattle.std.specs.Prelude.{◌⊎◌, ◌&&◌}
 use Rattle.std.specs.List.{list_all, range_with_len}
-use Rattle.std.proofs.lemmas.Bool.{both_ways, cases_lt}
+use Rattle.std.proofs.lemmas.Bool.{and_parts, both_ways, cases_lt}
 use Rattle.std.proofs.lemmas.List.{get_or-take, length-take-le}
 use Rattle.std.proofs.lemmas.List.FromFn.{get_or-range_with_len, length-range_with_len}
 use Rattle.mit_plan.specs.Held.{op_of}
 use Rattle.mit_plan.specs.Plans.{block_at, op_at}
 use Rattle.mit_plan.specs.Valid.{RangesFollow}
-use Rattle.mit_machine.specs.Places.{Reports, all_done, front, front_from, front_index, is_done, known, known_from, leads_on, open_from}
+use Rattle.mit_machine.specs.Places.{Reports, all_done, front, front_from, front_index, is_done, known, known_from, leads_on, makes, open_from}
 use Rattle.mit_machine.specs.State.{Machine}
-use Rattle.mit_machine.proofs.Searches.{range_each, range_found}
+use Rattle.mit_machine.proofs.Lists.{range_each, range_found}
 use Rattle.mit_machine.proofs.Standing.{stands_in}
+
+-- what is done was heard from each partition, and is ok there
+pub done_in : (machine : Machine) (reports : Reports) (op place part : ℕ) → part < machine.job.partitions → is_done machine reports op place ≡ true → (reports op place part ≡ true) × (makes machine op place part ≡ true)
+done_in machine reports op place part some done =
+    and_parts (reports op place part) (makes machine op place part)
+    (range_each (λ part. reports op place part && makes machine op place part) 0 machine.job.partitions part done (omega arith) (omega (arith, some)))
 
 -- ---- the first that fails
 
 -- the first of these, counted from a number, at which a test fails; their number where it fails at none
-record IsFirst (test : ℕ → ℕ → Bool) (from : ℕ) (xs : List ℕ) (found : ℕ) : Type 0 where
-  most : found ≤ from + length xs
+record FirstFails (test : ℕ → ℕ → Bool) (from : ℕ) (xs : List ℕ) (found : ℕ) : Type 0 where
   before : (k : ℕ) → from + k < found → test (from + k) (get_or xs k 0) ≡ true
   here : found < from + length xs → (k : ℕ) × (k < length xs) × (found ≡ from + k) × (test (from + k) (get_or xs k 0) ≡ false)
 
-first_none : (test : ℕ → ℕ → Bool) (from : ℕ) → IsFirst test from [] from
-first_none test from = record {
-  most = omega arith;
+fails_none : (test : ℕ → ℕ → Bool) (from : ℕ) → FirstFails test from [] from
+fails_none test from = record {
   before = λ k less. absurd (omega (arith, less));
   here = λ less. absurd (omega (arith, less));
 }
 
-first_more : (test : ℕ → ℕ → Bool) (from x : ℕ) (xs : List ℕ) (found : ℕ) (passes : Bool) → test from x ≡ passes → IsFirst test (from + 1) xs found → IsFirst test from (x ∷ xs) (cond passes found from)
-first_more test from x xs found true is rest = record {
-  most = omega (arith, rest.most);
+fails_more : (test : ℕ → ℕ → Bool) (from x : ℕ) (xs : List ℕ) (found : ℕ) (passes : Bool) → test from x ≡ passes → FirstFails test (from + 1) xs found → FirstFails test from (x ∷ xs) (cond passes found from)
+fails_more test from x xs found true is rest = record {
   before = before;
   here = λ less.
       let one = rest.here (omega (arith, less)) in
@@ -41,24 +44,23 @@ first_more test from x xs found true is rest = record {
     before : (k : ℕ) → from + k < found → test (from + k) (get_or (x ∷ xs) k 0) ≡ true
     before zero less = let e : from + 0 ≡ from = omega arith in ap (λ (n : ℕ). test n x) e ∙ is
     before (suc k) less = let e : from + suc k ≡ from + 1 + k = omega arith in ap (λ (n : ℕ). test n (get_or xs k 0)) e ∙ rest.before k (omega (arith, less))
-first_more test from x xs found false is rest = record {
-  most = omega arith;
+fails_more test from x xs found false is rest = record {
   before = λ k less. absurd (omega (arith, less));
   here = λ less. let e : from + 0 ≡ from = omega arith in (0, omega arith, omega arith, ap (λ (n : ℕ). test n x) e ∙ is);
 }
 
-front_first : (machine : Machine) (reports : Reports) (place : ℕ) (xs : List ℕ) → IsFirst (all_done machine reports) place xs (front_from machine reports place xs)
+front_fails : (machine : Machine) (reports : Reports) (place : ℕ) (xs : List ℕ) → FirstFails (all_done machine reports) place xs (front_from machine reports place xs)
 unfolding front_from
-front_first machine reports place [] = first_none (all_done machine reports) place
-front_first machine reports place (block ∷ later) =
-    first_more (all_done machine reports) place block later (front_from machine reports (place + 1) later) (all_done machine reports place block) refl (front_first machine reports (place + 1) later)
+front_fails machine reports place [] = fails_none (all_done machine reports) place
+front_fails machine reports place (block ∷ later) =
+    fails_more (all_done machine reports) place block later (front_from machine reports (place + 1) later) (all_done machine reports place block) refl (front_fails machine reports (place + 1) later)
 
-open_first : (machine : Machine) (reports : Reports) (place index : ℕ) (xs : List ℕ) → IsFirst (λ index op. is_done machine reports op place) index xs (open_from machine reports place index xs)
+open_fails : (machine : Machine) (reports : Reports) (place index : ℕ) (xs : List ℕ) → FirstFails (λ index op. is_done machine reports op place) index xs (open_from machine reports place index xs)
 unfolding open_from
-open_first machine reports place index [] = first_none (λ index op. is_done machine reports op place) index
-open_first machine reports place index (op ∷ later) =
-    first_more (λ index op. is_done machine reports op place) index op later (open_from machine reports place (index + 1) later) (is_done machine reports op place) refl
-    (open_first machine reports place (index + 1) later)
+open_fails machine reports place index [] = fails_none (λ index op. is_done machine reports op place) index
+open_fails machine reports place index (op ∷ later) =
+    fails_more (λ index op. is_done machine reports op place) index op later (open_from machine reports place (index + 1) later) (is_done machine reports op place) refl
+    (open_fails machine reports place (index + 1) later)
 
 -- ---- the known path
 
@@ -94,7 +96,7 @@ known_ends machine reports =
           inr (one.0, one.1, omega (arith, one.2), ap (λ (n : ℕ). leads_on machine reports n (get_or machine.history.path one.0 0)) (sym e) ∙ one.3)
     ]
 
-known_most : (machine : Machine) (reports : Reports) → known machine reports ≤ length machine.history.path
+pub known_most : (machine : Machine) (reports : Reports) → known machine reports ≤ length machine.history.path
 known_most machine reports =
     elim (known_ends machine reports) [
       | inl all ↦ omega (arith, all)
@@ -114,7 +116,7 @@ done_before machine reports place op ranges less below some is =
     let plan = machine.job.plan in
     let block = get_or machine.history.path place 0 in
     let z : 0 + place ≡ place = omega arith in
-    let first = front_first machine reports 0 (take (known machine reports) machine.history.path) in
+    let first = front_fails machine reports 0 (take (known machine reports) machine.history.path) in
     let all : all_done machine reports place block ≡ true =
     ap (λ (one : ℕ). all_done machine reports place one) (sym (known_block machine reports place below))
     ∙ ap (λ (n : ℕ). all_done machine reports n (get_or (take (known machine reports) machine.history.path) place 0)) (sym z)
@@ -127,7 +129,7 @@ front_open : (machine : Machine) (reports : Reports) → front machine reports <
     → all_done machine reports (front machine reports) (get_or machine.history.path (front machine reports) 0) ≡ false
 front_open machine reports less =
     let path = take (known machine reports) machine.history.path in
-    let first = front_first machine reports 0 path in
+    let first = front_fails machine reports 0 path in
     let size = length-take-le (known machine reports) machine.history.path (known_most machine reports) in
     let one = first.here (omega (arith, less, size)) in
     let e : front machine reports ≡ one.0 = omega (arith, one.2) in
@@ -149,8 +151,8 @@ open_is machine reports place first count some =
     index : ℕ
     index = open_from machine reports place 0 (range_with_len first count)
 
-    is : IsFirst (λ index op. is_done machine reports op place) 0 (range_with_len first count) index
-    is = open_first machine reports place 0 (range_with_len first count)
+    is : FirstFails (λ index op. is_done machine reports op place) 0 (range_with_len first count) index
+    is = open_fails machine reports place 0 (range_with_len first count)
 
     passes : (other : ℕ) → other < index → other < count → is_done machine reports (first + other) place ≡ true
     passes other less below =

@@ -1,59 +1,91 @@
 -- What is kept in a longer view, or after more polls, was kept before.
-use Rattle.std.proofs.Common.{◌≡◌, ◌∙◌, ◌<◌, ◌≤◌, ◌+◌, ◌-◌, ℕ, zero, suc, List, [], ◌∷◌, ◌++◌, length, take, drop, ap, sym, subst, refl, arith, All, inl, inr, Bool, true, false}
-use Rattle.std.specs.Prelude.{◌⊎◌, ◌&&◌, ◌||◌, not, nat_lt}
+use Rattle.std.proofs.Common.{◌≡◌, ◌≢◌, ◌∙◌, ◌==◌, ◌<◌, ◌≤◌, ◌+◌, ℕ, zero, suc, List, [], ◌∷◌, ◌++◌, length, take, drop, get_or, ap, sym, subst, refl, arith, All, eqb, eqb-true, eq-eqb, inl, inr, Bool, true, false, Option, Some, None}
+use Rattle.std.specs.Prelude.{◌⊎◌, ◌||◌, not}
 use Rattle.std.specs.List.{list_any}
-use Rattle.std.proofs.lemmas.Bool.{cases_lt}
-use Rattle.std.proofs.lemmas.List.{append-nil, drop_all, length-take, take-append-drop, take-take}
+use Rattle.std.proofs.lemmas.Bool.{and_parts, both_ways, cases_lt, or_cases, or_right}
+use Rattle.std.proofs.lemmas.List.{append-nil, drop-drop, drop_all, get_or-map, length-map, length-take, take-append-drop, take-take}
 use Rattle.std.proofs.lemmas.List.Elements.{All-drop}
 use Rattle.std.proofs.lemmas.List.Folds.{Any-from_list_any, list_any-append, list_any_at}
-use Rattle.mit_ops.specs.declared.leave.Leave.{Leave}
-use Rattle.mit_ops.specs.declared.leave.Leave.TheVariants.{Jump, Branch, End}
-use Rattle.mit_path.specs.Fate.{is_superseded}
-use Rattle.mit_plan.specs.Chosen.{chosen, input_numbers}
-use Rattle.mit_plan.specs.Held.{decisions_before}
-use Rattle.mit_plan.specs.Meant.{last_block}
-use Rattle.mit_plan.specs.Plans.{PlanOf, edge_at, op_at}
-use Rattle.mit_plan.specs.Valid.{is_end}
+use Rattle.mit_path.specs.Choice.{chosen as chosen_operand}
+use Rattle.mit_path.specs.Fate.{is_among, is_superseded}
+use Rattle.mit_plan.specs.Chosen.{Choice, chosen, input_edges, input_numbers}
+use Rattle.mit_plan.specs.Plans.{PlanOf, edge_at, is_phi, op_at, source_block}
 use Rattle.mit_machine.specs.Channels.{is_complete, siblings_of}
 use Rattle.mit_machine.specs.Kept.{chooses, is_kept, takes}
 use Rattle.mit_machine.specs.Places.{own_places}
 use Rattle.mit_machine.specs.Runs.{Runs}
 use Rattle.mit_machine.specs.State.{Machine}
-use Rattle.mit_machine.proofs.Followed.{LeavesOn, last_goes_on}
-use Rattle.mit_machine.proofs.Longer.{later_above, later_places, places_below, places_longer}
-use Rattle.mit_machine.proofs.Unchosen.{ChoiceLaws, any_past, chooses_before, source_of}
+use Rattle.mit_machine.proofs.Choosing.{ChoiceLaws, blocks_of, chosen_edges, siblings_within}
+use Rattle.mit_machine.proofs.Places.{later_above, later_places, places_append, places_below}
+use Rattle.mit_machine.proofs.WholePaths.{part_incomplete}
 
 -- the laws of longer paths
 pub record LongerLaws : Type 0 where
   pub choices : ChoiceLaws
+  pub unchosen : (path more operands siblings : List ℕ) (source place at operand : ℕ) (phi : Bool) → length path ≤ at
+      → ((block : ℕ) → is_among (source ∷ siblings) block ≡ true → is_among operands block ≡ true)
+      → is_superseded path source place siblings false ≡ true
+      → chosen_operand (path ++ more) operands at phi ≢ Some (operand, place)
   pub chosen : (plan : PlanOf) (path more : List ℕ) (op input place : ℕ) → place < length path → chosen plan (path ++ more) op input place ≡ chosen plan path op input place
   pub superseded : (path more : List ℕ) (source place : ℕ) (siblings : List ℕ) (complete : Bool) → is_superseded path source place siblings false ≡ true
       → is_superseded (path ++ more) source place siblings complete ≡ true
+
+-- ---- no choice behind the path
+
+abbrev source_of : PlanOf → ℕ → ℕ
+source_of plan edge = source_block plan (edge_at plan edge)
+
+source_among : (plan : PlanOf) (edges : List ℕ) (operand : ℕ) → operand < length edges → is_among (blocks_of plan edges) (source_of plan (get_or edges operand 0)) ≡ true
+source_among plan edges operand below =
+    let blocks = blocks_of plan edges in
+    let source = source_of plan (get_or edges operand 0) in
+    list_any_at (λ other. eqb source other) blocks operand 0 (omega (arith, below, length-map edges (source_of plan)))
+    (eq-eqb source (get_or blocks operand 0) (sym (get_or-map (source_of plan) edges operand 0 0 below)))
+
+-- the sources of a chosen edge are its input's operands
+sources_among : (plan : PlanOf) (edge input operand : ℕ) → let edges = get_or (input_edges plan (edge_at plan edge).to) input [] in operand < length edges
+    → get_or edges operand 0 ≡ edge → (block : ℕ) → is_among (source_of plan edge ∷ siblings_of plan edge) block ≡ true → is_among (blocks_of plan edges) block ≡ true
+sources_among plan edge input operand below is block any =
+    let edges = get_or (input_edges plan (edge_at plan edge).to) input [] in
+    elim (or_cases (block == source_of plan edge) (is_among (siblings_of plan edge) block) any) [
+      | inl own ↦
+          ap (is_among (blocks_of plan edges)) (eqb-true block (source_of plan edge) own)
+          ∙ ap (λ (one : ℕ). is_among (blocks_of plan edges) (source_of plan one)) (sym is) ∙ source_among plan edges operand below
+      | inr sibling ↦ siblings_within plan (edge_at plan edge).to input edge refl (omega (arith, below)) block sibling
+    ]
+
+-- no place behind a path chooses a bag that is superseded on it
+chooses_before : LongerLaws → (plan : PlanOf) (path more : List ℕ) (edge place at : ℕ) → length path ≤ at
+    → is_superseded path (source_of plan edge) place (siblings_of plan edge) false ≡ true → chooses plan (path ++ more) edge place at ≡ true → ⊥
+chooses_before laws plan path more edge place at beyond superseded any =
+    let op = (edge_at plan edge).to in
+    let some = Any-from_list_any (λ input. takes edge place (chosen plan (path ++ more) op input at)) (input_numbers plan op) any in
+    by_choice some.1 (chosen plan (path ++ more) op some.1 at) refl some.4
+  where
+    by_choice : (input : ℕ) (found : Option Choice) → chosen plan (path ++ more) (edge_at plan edge).to input at ≡ found → takes edge place found ≡ true → ⊥
+    by_choice input None is took = absurd cc
+    by_choice input (Some choice) is took =
+        let op = (edge_at plan edge).to in
+        let both = and_parts (choice.edge == edge) (choice.place == place) took in
+        let one = chosen_edges laws.choices plan (path ++ more) op input at choice is in
+        laws.unchosen path more (blocks_of plan (get_or (input_edges plan op) input [])) (siblings_of plan edge) (source_of plan edge) place at one.operand (is_phi (op_at plan op)) beyond
+        (sources_among plan edge input one.operand one.inside (sym one.edge ∙ eqb-true choice.edge edge both.0)) superseded
+        (one.found ∙ ap (λ (n : ℕ). Some (one.operand, n)) (eqb-true choice.place place both.1))
 
 -- ---- some element of what is left of a list
 
 any_of_drop : (test : ℕ → Bool) (many : ℕ) (xs : List ℕ) → list_any test (drop many xs) ≡ true → list_any test xs ≡ true
 any_of_drop test zero xs any = any
 any_of_drop test (suc many) [] any = any
-any_of_drop test (suc many) (x ∷ xs) any = any_past (test x) (list_any test xs) (any_of_drop test many xs any)
+any_of_drop test (suc many) (x ∷ xs) any = or_right (test x) (list_any test xs) (any_of_drop test many xs any)
 
 any_of_more : (test : ℕ → Bool) (further few : ℕ) (xs : List ℕ) → list_any test (drop (further + few) xs) ≡ true → list_any test (drop few xs) ≡ true
-any_of_more test further zero xs any = any_of_drop test (further + 0) xs any
-any_of_more test further (suc few) [] any = absurd (none (further + suc few) any)
-  where
-    none : (many : ℕ) → list_any test (drop many []) ≡ true → ⊥
-    none zero any = absurd cc
-    none (suc many) any = absurd cc
-any_of_more test further (suc few) (x ∷ xs) any =
-    let e : further + suc few ≡ suc (further + few) = omega arith in
-    any_of_more test further few xs (ap (λ (n : ℕ). list_any test (drop n (x ∷ xs))) (sym e) ∙ any)
+any_of_more test further few xs any =
+    let e : few + further ≡ further + few = omega arith in
+    any_of_drop test further (drop few xs) (ap (list_any test) (drop-drop further few xs) ∙ ap (λ (n : ℕ). list_any test (drop n xs)) e ∙ any)
 
 any_in_either : (test : ℕ → Bool) (many : ℕ) (xs ys : List ℕ) → list_any test (drop many (xs ++ ys)) ≡ true → (list_any test (drop many xs) ≡ true) ⊎ (list_any test ys ≡ true)
-any_in_either test zero xs ys any = by_first (list_any test xs) refl (sym (list_any-append test xs ys) ∙ any)
-  where
-    by_first : (first : Bool) → list_any test xs ≡ first → (first || list_any test ys) ≡ true → (list_any test xs ≡ true) ⊎ (list_any test ys ≡ true)
-    by_first true is any = inl is
-    by_first false is any = inr any
+any_in_either test zero xs ys any = or_cases (list_any test xs) (list_any test ys) (sym (list_any-append test xs ys) ∙ any)
 any_in_either test (suc many) [] ys any = inr (any_of_drop test (suc many) ys any)
 any_in_either test (suc many) (x ∷ xs) ys any = any_in_either test many xs ys any
 
@@ -95,7 +127,7 @@ wanted_before laws plan path more further polls edge place superseded any =
     let block = (op_at plan (edge_at plan edge).to).block in
     let test : ℕ → Bool = chooses plan (path ++ more) edge place in
     by_side (any_in_either test (further + polls) (own_places plan path (edge_at plan edge).to) (later_places path more block)
-    (ap (λ (places : List ℕ). list_any test (drop (further + polls) places)) (sym (places_longer path more block)) ∙ any))
+    (ap (λ (places : List ℕ). list_any test (drop (further + polls) places)) (sym (places_append path more block)) ∙ any))
   where
     by_side : (list_any (chooses plan (path ++ more) edge place) (drop (further + polls) (own_places plan path (edge_at plan edge).to)) ≡ true)
         ⊎ (list_any (chooses plan (path ++ more) edge place) (later_places path more (op_at plan (edge_at plan edge).to).block) ≡ true)
@@ -109,7 +141,7 @@ wanted_before laws plan path more further polls edge place superseded any =
     by_side (inr later) =
         let some = any_holds (chooses plan (path ++ more) edge place) (λ at. length path ≤ at) (later_places path more (op_at plan (edge_at plan edge).to).block)
         (later_above path more (op_at plan (edge_at plan edge).to).block) later in
-        absurd (chooses_before laws.choices plan path more edge place some.0 some.1 superseded some.2)
+        absurd (chooses_before laws plan path more edge place some.0 some.1 superseded some.2)
 
 kept_by : (wanted superseded : Bool) → (superseded ≡ true → wanted ≡ true) → (wanted || not superseded) ≡ true
 kept_by true superseded on = refl
@@ -152,29 +184,12 @@ kept_before laws plan path more further polls edge place ends kept = by_complete
 
 -- ---- a complete view is the whole path
 
-end_stops : (machine : Machine) (used : ℕ) (leave : Leave) → is_end leave ≡ true → LeavesOn machine.job used leave → ⊥
-end_stops machine used (Jump next) end on = absurd cc
-end_stops machine used (Branch on_true on_false) end on = absurd cc
-end_stops machine used End end on = on
-
 complete_whole : (machine : Machine) (seen : ℕ) → Runs machine → is_complete machine.job.plan (take seen machine.history.path) ≡ true → length machine.history.path ≤ seen
-complete_whole machine seen runs complete = by_order (cases_lt seen (length machine.history.path)) (cases_lt 0 seen)
-  where
-    by_size : (some end : Bool) → nat_lt 0 (length (take seen machine.history.path)) ≡ some → (some && end) ≡ true → end ≡ true
-    by_size true end is both = both
-    by_size false end is both = absurd cc
-
-    by_order : (seen < length machine.history.path) ⊎ (length machine.history.path ≤ seen) → (0 < seen) ⊎ (seen ≤ 0) → length machine.history.path ≤ seen
-    by_order (inr past) some = past
-    by_order (inl below) (inr none) =
-        let e : seen ≡ 0 = omega (arith, none) in
-        let empty : is_complete machine.job.plan (take 0 machine.history.path) ≡ true = ap (λ (n : ℕ). is_complete machine.job.plan (take n machine.history.path)) (sym e) ∙ complete in
-        absurd cc
-    by_order (inl below) (inl some) =
-        let path = take seen machine.history.path in
-        let leave = (last_block machine.job.plan path).leave in
-        absurd (end_stops machine (decisions_before machine.job.plan path (length path - 1)) leave (by_size (nat_lt 0 (length path)) (is_end leave) refl complete)
-        (last_goes_on machine seen runs some below))
+complete_whole machine seen runs complete =
+    elim (cases_lt seen (length machine.history.path)) [
+      | inl below ↦ absurd (both_ways (is_complete machine.job.plan (take seen machine.history.path)) (part_incomplete machine runs seen below) complete)
+      | inr past ↦ past
+    ]
 
 pub kept_is : LongerLaws → (machine : Machine) (seen polls more further edge place : ℕ) → Runs machine
     → is_kept machine.job.plan (take (more + seen) machine.history.path) (further + polls) edge place ≡ true

@@ -15,8 +15,7 @@ use Rattle.mit_plan.specs.declared.plan.PlanBlock.{PlanBlock}
 use Rattle.mit_machine.specs.Places.{Reports, front, known, leads_on}
 use Rattle.mit_machine.specs.Runs.{Runs, known_end}
 use Rattle.mit_machine.specs.State.{Machine}
-use Rattle.mit_machine.proofs.FrontInputs.{done_in}
-use Rattle.mit_machine.proofs.Fronts.{done_before, known_ends}
+use Rattle.mit_machine.proofs.Fronts.{done_before, done_in, known_ends}
 use Rattle.mit_machine.proofs.Standing.{Names, names}
 use Rattle.mit_machine.proofs.WholePaths.{IsRun, run_is}
 
@@ -57,7 +56,7 @@ condition_done machine reports place runs less below branch =
 
 -- ---- the known path is the whole path
 
-all_known : (machine : Machine) (reports : Reports) → Runs machine → known machine reports ≤ front machine reports → known machine reports ≡ length machine.history.path
+pub all_known : (machine : Machine) (reports : Reports) → Runs machine → known machine reports ≤ front machine reports → known machine reports ≡ length machine.history.path
 all_known machine reports runs done = by_end (known_ends machine reports)
   where
     by_end : (known machine reports ≡ length machine.history.path)
@@ -113,7 +112,7 @@ abbrev pub PathStops : Type 0
 PathStops = (job : Job) → 0 < length job.plan.blocks → JumpsEnd job.plan → (run job (most_places job.plan job.decisions)).next ≡ None
 
 -- the whole run
-pub whole_run : PathStops → (machine : Machine) → Runs machine → IsRun machine.job (record { history = machine.history; next = None })
+whole_run : PathStops → (machine : Machine) → Runs machine → IsRun machine.job (record { history = machine.history; next = None })
 whole_run stops machine runs =
     let state = run machine.job (most_places machine.job.plan machine.job.decisions) in
     let next = stops machine.job (some_block machine.job.plan runs.plan) runs.plan.jumps in

@@ -1,7 +1,7 @@
 -- Lists that go on as others do.
 use Rattle.std.proofs.Common.{◌∙◌, ◌≤◌, ℕ, zero, suc, List, [], ◌∷◌, ◌++◌, length, take, drop, ap, sym, refl, arith, Bool, false}
 use Rattle.std.specs.List.{filter}
-use Rattle.std.proofs.lemmas.List.{append-nil, length-append}
+use Rattle.std.proofs.lemmas.List.{append-nil, length-append, take-append-drop, take-take}
 use Rattle.std.proofs.lemmas.List.Elements.{filter-append}
 use Rattle.mit_machine.specs.Moves.{Moves}
 
@@ -29,10 +29,19 @@ lengthens_drop n xs ys longer =
     (rest.0, ap (drop n) longer.1 ∙ rest.1)
 
 pub lengthens_take : (few many : ℕ) (xs : List ℕ) → few ≤ many → Lengthens (take few xs) (take many xs)
-lengthens_take zero many xs below = (take many xs, refl)
-lengthens_take (suc few) zero xs below = absurd (omega (arith, below))
-lengthens_take (suc few) (suc many) [] below = ([], refl)
-lengthens_take (suc few) (suc many) (x ∷ xs) below = lengthens_cons x (take few xs) (take many xs) (lengthens_take few many xs (omega (arith, below)))
+lengthens_take few many xs below =
+    let first = take-take few many xs below in
+    (drop few (take many xs), sym (take-append-drop few (take many xs)) ∙ ap (λ list. list ++ drop few (take many xs)) first)
+
+first_longer : (n : ℕ) (xs ys : List ℕ) → Lengthens (take n xs) (take n (xs ++ ys))
+first_longer zero xs ys = ([], refl)
+first_longer (suc n) [] ys = (take (suc n) ys, refl)
+first_longer (suc n) (x ∷ xs) ys = lengthens_cons x (take n xs) (take n (xs ++ ys)) (first_longer n xs ys)
+
+pub lengthens_first : (n : ℕ) (xs ys : List ℕ) → Lengthens xs ys → Lengthens (take n xs) (take n ys)
+lengthens_first n xs ys longer =
+    let rest = first_longer n xs longer.0 in
+    (rest.0, ap (take n) longer.1 ∙ rest.1)
 
 pub lengthens_length : (xs ys : List ℕ) → Lengthens xs ys → length xs ≤ length ys
 lengthens_length xs ys longer = omega (arith, ap length longer.1, length-append xs longer.0)

@@ -1,34 +1,35 @@
-pub mod Monotone
-pub mod Raised
+-- lists and ranges, and counters
+pub mod Lists
 pub mod Lengthens
-pub mod Rising
+pub mod Raised
+-- places of blocks, where operators stand, and what they choose
 pub mod Places
-pub mod Unfinished
-pub mod Settling
+pub mod Standing
+pub mod Choosing
+-- paths and runs
+pub mod WholePaths
+-- the known path, the front and what is released
+pub mod Monotone
+pub mod Fronts
+pub mod KnownEnds
+-- channels
 pub mod Offered
+pub mod Settling
 pub mod Fed
-pub mod Validity
 pub mod Channels
+-- states
+pub mod Validity
 pub mod Counting
 pub mod Picks
-pub mod Followed
-pub mod Ranges
-pub mod Done
-pub mod Found
-pub mod Endings
-pub mod Longer
-pub mod Unchosen
-pub mod Keeping
-pub mod Searches
-pub mod Standing
-pub mod OwnPlaces
-pub mod Fronts
-pub mod Choosing
-pub mod WholePaths
-pub mod KnownEnds
+-- progress
 pub mod FrontInputs
 pub mod Faults
 pub mod Offering
 pub mod Progress
+-- endings
+pub mod Found
+pub mod Endings
+-- what is kept
+pub mod Keeping
+-- worked states
 pub mod Worked
-pub mod Window

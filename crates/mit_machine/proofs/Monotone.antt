@@ -1,32 +1,14 @@
--- With more reports no less is known, the front is no lower, and no less is released.
+-- With more reports no less is known, the front is no lower and no less is released; what is released lies within the window.
 use Rattle.std.proofs.Common.{◌≡◌, ◌≤◌, ◌+◌, ℕ, zero, suc, List, [], ◌∷◌, take, min, refl, arith, cond, Bool, true, false}
-use Rattle.std.specs.Prelude.{◌==◌, ◌&&◌, ◌||◌}
-use Rattle.std.specs.List.{list_all, list_any, range_with_len}
+use Rattle.std.specs.Prelude.{◌==◌, ◌&&◌}
+use Rattle.std.specs.List.{range_with_len}
 use Rattle.mit_plan.specs.Plans.{block_at}
 use Rattle.mit_plan.specs.Valid.{is_branch, last_of}
+use Rattle.mit_machine.specs.Offers.{released_in}
 use Rattle.mit_machine.specs.Places.{Reports, all_done, front, front_from, heard_by, is_done, known, known_from, leads_on, makes, ops_of, own_places, released}
-use Rattle.mit_machine.specs.State.{Machine}
-
--- ---- tests that stay true
-
-pub any_take : (test : ℕ → Bool) (few many : ℕ) (xs : List ℕ) → few ≤ many → list_any test (take few xs) ≡ true → list_any test (take many xs) ≡ true
-any_take test zero many xs below some = absurd cc
-any_take test (suc few) zero xs below some = absurd (omega (arith, below))
-any_take test (suc few) (suc many) [] below some = absurd cc
-any_take test (suc few) (suc many) (x ∷ xs) below some = by_first (any_take test few many xs (omega (arith, below))) (test x) some
-  where
-    by_first : (list_any test (take few xs) ≡ true → list_any test (take many xs) ≡ true) → (first : Bool)
-        → (first || list_any test (take few xs)) ≡ true → (first || list_any test (take many xs)) ≡ true
-    by_first later true found = refl
-    by_first later false found = later found
-
-pub all_more : (few many : ℕ → Bool) (xs : List ℕ) → ((x : ℕ) → few x ≡ true → many x ≡ true) → list_all few xs ≡ true → list_all many xs ≡ true
-all_more few many [] more all = refl
-all_more few many (x ∷ xs) more all = by_first (all_more few many xs more) (few x) refl all
-  where
-    by_first : (list_all few xs ≡ true → list_all many xs ≡ true) → (first : Bool) → few x ≡ first → (first && list_all few xs) ≡ true → (many x && list_all many xs) ≡ true
-    by_first later true is rest = rw (more x is) (later rest)
-    by_first later false is rest = absurd cc
+use Rattle.mit_machine.specs.State.{Action, Machine, State, after, hear, learn, poll, raised_in, take_bag}
+use Rattle.mit_machine.proofs.Lists.{all_more, any_take}
+use Rattle.mit_machine.proofs.Raised.{raised_in_least}
 
 both_more : (few many other : Bool) → (few ≡ true → many ≡ true) → (few && other) ≡ true → (many && other) ≡ true
 both_more true many other more all = rw (more refl) all
@@ -47,11 +29,11 @@ if_least false low one other above least = least
 abbrev pub AreMore : Reports → Reports → Type 0
 AreMore few many = (op place part : ℕ) → few op place part ≡ true → many op place part ≡ true
 
-pub heard_more : (machine : Machine) (few many : ℕ → ℕ → ℕ) → ((op part : ℕ) → few op part ≤ many op part) → AreMore (heard_by machine few) (heard_by machine many)
+heard_more : (machine : Machine) (few many : ℕ → ℕ → ℕ) → ((op part : ℕ) → few op part ≤ many op part) → AreMore (heard_by machine few) (heard_by machine many)
 heard_more machine few many more op place part =
     any_take (λ other. other == place) (few op part) (many op part) (own_places machine.job.plan machine.history.path op) (more op part)
 
-pub done_more : (machine : Machine) (few many : Reports) → AreMore few many → (op place : ℕ) → is_done machine few op place ≡ true → is_done machine many op place ≡ true
+done_more : (machine : Machine) (few many : Reports) → AreMore few many → (op place : ℕ) → is_done machine few op place ≡ true → is_done machine many op place ≡ true
 done_more machine few many more op place =
     all_more (λ part. few op place part && makes machine op place part) (λ part. many op place part && makes machine op place part) (range_with_len 0 machine.job.partitions)
     (λ part. both_more (few op place part) (many op place part) (makes machine op place part) (more op place part))
@@ -99,8 +81,10 @@ front_more machine few many more place (suc less) (suc length) (block ∷ path) 
     (all_more (λ op. is_done machine few op place) (λ op. is_done machine many op place) (ops_of machine.job.plan block) (λ op. done_more machine few many more op place))
     (front_more machine few many more (place + 1) less length path (omega (arith, below))) (omega (arith, least))
 
+-- ---- what is released
+
 -- with more reports no less is released
-pub released_more : (machine : Machine) (few many : Reports) → AreMore few many → released machine few ≤ released machine many
+released_more : (machine : Machine) (few many : Reports) → AreMore few many → released machine few ≤ released machine many
 released_more machine few many more =
     let path_more = known_more machine few many more 0 machine.history.path in
     let place_more = front_more machine few many more 0 (known machine few) (known machine many) machine.history.path path_more in
@@ -108,3 +92,16 @@ released_more machine few many more =
   where
     least_more : (known_few known_many front_few front_many window : ℕ) → known_few ≤ known_many → front_few ≤ front_many → min known_few (front_few + window) ≤ min known_many (front_many + window)
     least_more known_few known_many front_few front_many window path_more place_more = omega arith
+
+-- no action releases less
+pub released_later : (machine : Machine) (state : State) (action : Action) → released_in machine state ≤ released_in machine (after action state)
+released_later machine state (learn part) = omega arith
+released_later machine state (hear op part) =
+    released_more machine (heard_by machine state.heard) (heard_by machine (raised_in op part state.heard))
+    (heard_more machine state.heard (raised_in op part state.heard) (λ other from. raised_in_least op part other from state.heard))
+released_later machine state (take_bag edge from to) = omega arith
+released_later machine state (poll op part) = omega arith
+
+-- no more is released than is known, or lies in the window
+pub within_window : (machine : Machine) (reports : Reports) → (released machine reports ≤ known machine reports) × (released machine reports ≤ front machine reports + machine.window)
+within_window machine reports = (omega arith, omega arith)

@@ -1,14 +1,14 @@
--- What is known of an action that is offered.
-use Rattle.std.proofs.Common.{◌≡◌, ◌<◌, ℕ, List, [], ◌∷◌, ◌++◌, length, map, take, drop, get_or, refl, arith, ltb-true, true, Option, Some, None}
+-- What is known of an action that is offered: it is enabled, and of the operators, edges and partitions that there are.
+use Rattle.std.proofs.Common.{◌≡◌, ◌<◌, ℕ, List, [], ◌∷◌, ◌++◌, length, map, take, drop, refl, arith, ltb-true, true, Option, Some, None}
 use Rattle.std.specs.Prelude.{◌&&◌, nat_lt, slice_get}
 use Rattle.std.specs.List.{All, Contains, flat_map, list_all, range_with_len}
 use Rattle.std.proofs.lemmas.Bool.{and_parts}
 use Rattle.std.proofs.lemmas.List.{length-drop, length-take}
 use Rattle.std.proofs.lemmas.List.Elements.{All-append, All-contains, All-filter, All-head, All-map, All-nil, All-tail, filter_passes}
-use Rattle.std.proofs.lemmas.List.FromFn.{get_or-range_with_len, length-range_with_len}
 use Rattle.mit_machine.specs.Offers.{Bags, actions_of, all_come, can_poll, can_poll_at, edges_in, is_enabled, offered, ops_in, parts_of}
 use Rattle.mit_machine.specs.Places.{makes, own_places}
 use Rattle.mit_machine.specs.State.{Action, Machine, State, hear, learn, poll, take_bag}
+use Rattle.mit_machine.proofs.Lists.{range_holds}
 
 -- ---- an offered action is enabled
 
@@ -53,10 +53,18 @@ IsWithin machine (hear op part) = (op < length machine.job.plan.ops) × (part < 
 IsWithin machine (take_bag edge from to) = (edge < length machine.job.plan.edges) × (from < machine.job.partitions) × (to < machine.job.partitions)
 IsWithin machine (poll op part) = (op < length machine.job.plan.ops) × (part < machine.job.partitions)
 
-range_below : (n : ℕ) → All (λ (one : ℕ). one < n) (range_with_len 0 n)
-range_below n k d within =
-    let less : k < n = omega (arith, within, length-range_with_len 0 n) in
-    omega (arith, less, get_or-range_with_len 0 n k d less)
+-- the actions of each kind
+abbrev pub learn_actions : Machine → List Action
+learn_actions machine = map learn (parts_of machine)
+
+abbrev pub hear_actions : Machine → List Action
+hear_actions machine = flat_map (λ op. map (hear op) (parts_of machine)) (ops_in machine)
+
+abbrev pub take_actions : Machine → List Action
+take_actions machine = flat_map (λ edge. flat_map (λ from. map (take_bag edge from) (parts_of machine)) (parts_of machine)) (edges_in machine)
+
+abbrev pub poll_actions : Machine → List Action
+poll_actions machine = flat_map (λ op. map (poll op) (parts_of machine)) (ops_in machine)
 
 all_flat_map : {X : Type 0} (P : X → Type 0) (f : ℕ → List X) (xs : List ℕ) → All (λ y. All P (f y)) xs → All P (flat_map f xs)
 all_flat_map P f [] all = All-nil P
@@ -64,10 +72,10 @@ all_flat_map P f (x ∷ xs) all = All-append P (f x) (flat_map f xs) (All-head (
 
 -- what holds of the actions that are made of numbers below a bound
 all_made : {X : Type 0} (P : X → Type 0) (f : ℕ → X) (n : ℕ) → ((one : ℕ) → one < n → P (f one)) → All P (map f (range_with_len 0 n))
-all_made P f n each = All-map P f (range_with_len 0 n) (λ k d within. each (get_or (range_with_len 0 n) k d) (range_below n k d within))
+all_made P f n each = All-map P f (range_with_len 0 n) (range_holds (λ one. P (f one)) 0 n (λ one above below. each one (omega (arith, below))))
 
 all_made_of : {X : Type 0} (P : X → Type 0) (f : ℕ → List X) (n : ℕ) → ((one : ℕ) → one < n → All P (f one)) → All P (flat_map f (range_with_len 0 n))
-all_made_of P f n each = all_flat_map P f (range_with_len 0 n) (λ k d within. each (get_or (range_with_len 0 n) k d) (range_below n k d within))
+all_made_of P f n each = all_flat_map P f (range_with_len 0 n) (range_holds (λ one. All P (f one)) 0 n (λ one above below. each one (omega (arith, below))))
 
 actions_within : (machine : Machine) → All (IsWithin machine) (actions_of machine)
 actions_within machine =
@@ -75,13 +83,9 @@ actions_within machine =
     let parts = machine.job.partitions in
     let ops = length machine.job.plan.ops in
     let edges = length machine.job.plan.edges in
-    let learns = map learn (parts_of machine) in
-    let hears = flat_map (λ op. map (hear op) (parts_of machine)) (ops_in machine) in
-    let takes = flat_map (λ edge. flat_map (λ from. map (take_bag edge from) (parts_of machine)) (parts_of machine)) (edges_in machine) in
-    let polls = flat_map (λ op. map (poll op) (parts_of machine)) (ops_in machine) in
-    All-append P (learns ++ hears ++ takes) polls
-    (All-append P (learns ++ hears) takes
-    (All-append P learns hears
+    All-append P (learn_actions machine ++ hear_actions machine ++ take_actions machine) (poll_actions machine)
+    (All-append P (learn_actions machine ++ hear_actions machine) (take_actions machine)
+    (All-append P (learn_actions machine) (hear_actions machine)
     (all_made P learn parts (λ part within. within))
     (all_made_of P (λ op. map (hear op) (parts_of machine)) ops (λ op is. all_made P (hear op) parts (λ part within. (is, within)))))
     (all_made_of P (λ edge. flat_map (λ from. map (take_bag edge from) (parts_of machine)) (parts_of machine)) edges

@@ -7,21 +7,10 @@ use Rattle.std.proofs.lemmas.List.Elements.{Contains-append_left, Contains-appen
 use Rattle.mit_machine.specs.Offers.{actions_of, bags_under_way, blocks_under_way, edges_in, is_enabled, offered, ops_in, parts_of, released_in, reports_under_way, sent_in}
 use Rattle.mit_machine.specs.Places.{own_places}
 use Rattle.mit_machine.specs.State.{Action, Machine, State, hear, learn, poll, take_bag}
-use Rattle.mit_machine.proofs.Searches.{in_flat_map, in_map, range_has, some_kept}
+use Rattle.mit_machine.proofs.Offered.{hear_actions, learn_actions, poll_actions, take_actions}
+use Rattle.mit_machine.proofs.Lists.{in_filter, in_flat_map, in_map, range_has}
 
 -- ---- the actions that there are
-
-abbrev learn_actions : Machine → List Action
-learn_actions machine = map learn (parts_of machine)
-
-abbrev hear_actions : Machine → List Action
-hear_actions machine = flat_map (λ op. map (hear op) (parts_of machine)) (ops_in machine)
-
-abbrev take_actions : Machine → List Action
-take_actions machine = flat_map (λ edge. flat_map (λ from. map (take_bag edge from) (parts_of machine)) (parts_of machine)) (edges_in machine)
-
-abbrev poll_actions : Machine → List Action
-poll_actions machine = flat_map (λ op. map (poll op) (parts_of machine)) (ops_in machine)
 
 has_part : (machine : Machine) (part : ℕ) → part < machine.job.partitions → Contains (parts_of machine) part
 has_part machine part some = range_has 0 machine.job.partitions part (omega arith) (omega (arith, some))
@@ -69,7 +58,9 @@ has_poll machine op part there some =
     (in_flat_map (λ op. map (poll op) (parts_of machine)) op (poll op part) (ops_in machine) at.0 at.1 at.2 (in_map (poll op) part (parts_of machine) (has_part machine part some)))
 
 offers : (machine : Machine) (state : State) (action : Action) → Contains (actions_of machine) action → is_enabled machine state action ≡ true → 0 < length (offered machine state)
-offers machine state action has enabled = some_kept (is_enabled machine state) action (actions_of machine) has.0 has.1 has.2 enabled
+offers machine state action has enabled =
+    let kept = in_filter (is_enabled machine state) action (actions_of machine) has.0 has.1 has.2 enabled in
+    omega (arith, kept.1)
 
 -- ---- messages
 

@@ -1,31 +1,84 @@
--- The places of a longer path begin with those of the shorter one.
-use Rattle.std.proofs.Common.{◌≡◌, ◌∙◌, ◌<◌, ◌≤◌, ◌+◌, ◌-◌, ℕ, zero, suc, List, ◌∷◌, ◌++◌, length, take, drop, get_or, ap, sym, subst, refl, arith, cond, inl, inr, Bool, Some}
+-- The places of a block: they rise, they are those at which the path has the block, and on a longer path more come behind them.
+use Rattle.std.proofs.Common.{◌≡◌, ◌∙◌, ◌<◌, ◌≤◌, ◌+◌, ◌-◌, ℕ, List, ◌++◌, length, take, drop, get_or, ap, sym, subst, refl, arith, All, Bool, eqb, inl, inr, true, false, Some}
 use Rattle.std.specs.Prelude.{◌==◌, ◌⊎◌, slice_get}
 use Rattle.std.specs.List.{filter, range_with_len}
-use Rattle.std.proofs.lemmas.Bool.{cases_lt}
+use Rattle.std.proofs.lemmas.Bool.{both_ways, cases_lt, eq-eqb, eqb-true}
 use Rattle.std.proofs.lemmas.List.{get_or-append_right, get_or_append_left, length-append, length-take-le, take-append-drop, take_all}
-use Rattle.std.proofs.lemmas.List.Elements.{filter-append}
+use Rattle.std.proofs.lemmas.List.Elements.{All-filter, filter-append, filter_passes}
 use Rattle.std.proofs.lemmas.List.FromFn.{length-range_with_len}
-use Rattle.std.proofs.lemmas.List.Sums.{count_by-le-length, length-filter}
-use Rattle.std.proofs.lemmas.Option.{get_or_from_slice_get, slice_get_within}
-use Rattle.mit_machine.specs.Places.{places_of}
+use Rattle.std.proofs.lemmas.List.Kept.{AllPairs-filter}
+use Rattle.std.proofs.lemmas.Option.{get_or_from_slice_get, slice_get-get_or, slice_get_within}
+use Rattle.mit_machine.specs.Places.{is_among, places_of}
 use Rattle.mit_machine.proofs.Lengthens.{Lengthens}
-use Rattle.mit_machine.proofs.Rising.{AtLeast, Rising, at_least_at, at_least_filter, range_least, range_rises, rising_filter}
+use Rattle.mit_machine.proofs.Lists.{Rising, any_at, any_found, filter_range, filter_shorter, in_filter, range_append, range_has, range_holds, range_rises}
 
-range_append : (first n m : ℕ) → range_with_len first (n + m) ≡ range_with_len first n ++ range_with_len (first + n) m
-range_append first zero m =
-    let same : zero + m ≡ m = omega arith in
-    let start : first ≡ first + zero = omega arith in
-    ap (range_with_len first) same ∙ ap (λ at. range_with_len at m) start
-range_append first (suc n) m =
-    let same : suc n + m ≡ suc (n + m) = omega arith in
-    let start : (first + 1) + n ≡ first + suc n = omega arith in
-    ap (range_with_len first) same ∙ ap (λ later. first ∷ later) (range_append (first + 1) n m ∙ ap (λ at. range_with_len (first + 1) n ++ range_with_len at m) start)
+-- ---- the list
 
-filter_range : (one other : ℕ → Bool) (first n : ℕ) → ((place : ℕ) → place < first + n → one place ≡ other place) → filter one (range_with_len first n) ≡ filter other (range_with_len first n)
-filter_range one other first zero same = refl
-filter_range one other first (suc n) same =
-    rw (same first (omega arith)) (ap (λ later. cond (other first) (first ∷ later) later) (filter_range one other (first + 1) n (λ place below. same place (omega (arith, below)))))
+pub places_rise : (path : List ℕ) (block : ℕ) → Rising (places_of path block)
+places_rise path block =
+    AllPairs-filter (λ (one other : ℕ). one < other) (λ place. eqb (get_or path place 0) block) (range_with_len 0 (length path)) (range_rises 0 (length path))
+
+pub places_below : (path : List ℕ) (block : ℕ) → All (λ place. place < length path) (places_of path block)
+places_below path block =
+    All-filter (λ place. get_or path place 0 == block) (λ place. place < length path) (range_with_len 0 (length path))
+    (range_holds (λ place. place < length path) 0 (length path) (λ k above below. omega (arith, below)))
+
+pub places_shorter : (path : List ℕ) (block : ℕ) → length (places_of path block) ≤ length path
+places_shorter path block =
+    omega (arith, filter_shorter (λ place. get_or path place 0 == block) (range_with_len 0 (length path)), length-range_with_len 0 (length path))
+
+-- a place of the list is one of the path, and has the block
+pub place_is : (path : List ℕ) (block k place : ℕ) → slice_get (places_of path block) k ≡ Some place → (place < length path) × (get_or path place 0 ≡ block)
+place_is path block k place there =
+    let xs = places_of path block in
+    let within = slice_get_within xs k place there in
+    let is : get_or xs k place ≡ place = get_or_from_slice_get xs k place place there in
+    let passes = filter_passes (λ place. eqb (get_or path place 0) block) (range_with_len 0 (length path)) k place within in (
+      subst (λ (one : ℕ). one < length path) is (places_below path block k place within),
+      eqb-true (get_or path place 0) block (subst (λ (one : ℕ). eqb (get_or path one 0) block ≡ true) is passes),
+    )
+
+-- and each such place is in the list
+pub place_found : (path : List ℕ) (block place : ℕ) → place < length path → get_or path place 0 ≡ block → (k : ℕ) × (slice_get (places_of path block) k ≡ Some place)
+place_found path block place below is =
+    let range = range_with_len 0 (length path) in
+    let has = range_has 0 (length path) place (omega arith) (omega (arith, below)) in
+    let kept = in_filter (λ place. eqb (get_or path place 0) block) place range has.0 has.1 has.2 (eq-eqb (get_or path place 0) block is) in
+    (kept.0, slice_get-get_or (places_of path block) kept.0 place kept.1 ∙ ap Some kept.2)
+
+-- later ones stand later
+pub in_order : (path : List ℕ) (block k m one other : ℕ) → slice_get (places_of path block) k ≡ Some one → slice_get (places_of path block) m ≡ Some other → k < m → one < other
+in_order path block k m one other first second less =
+    let xs = places_of path block in
+    let within = slice_get_within xs m other second in
+    let rises = places_rise path block k m 0 less within in
+    let e = get_or_from_slice_get xs k one 0 first in
+    let f = get_or_from_slice_get xs m other 0 second in
+    omega (arith, rises, e, f)
+
+-- ---- the first so many
+
+-- something that came of a place came of so many places
+pub came_of : (path : List ℕ) (block n k place : ℕ) → slice_get (places_of path block) k ≡ Some place → is_among n (places_of path block) place ≡ true → k < n
+came_of path block n k place there among =
+    let one = any_found n place (places_of path block) among in
+    elim (cases_lt k n) [
+      | inl less ↦ less
+      | inr past ↦
+          let above = in_order path block one.0 k place place one.2 there (omega (arith, one.1, past)) in
+          absurd (omega (arith, above))
+    ]
+
+-- nothing came yet of a place
+pub not_yet : (path : List ℕ) (block n k place : ℕ) → slice_get (places_of path block) k ≡ Some place → is_among n (places_of path block) place ≡ false → n ≤ k
+not_yet path block n k place there none =
+    elim (cases_lt k n) [
+      | inl less ↦
+          absurd (both_ways (is_among n (places_of path block) place) none (any_at (λ other. eqb other place) n k place (places_of path block) less there (eq-eqb place place refl)))
+      | inr past ↦ past
+    ]
+
+-- ---- a longer path
 
 -- the places of a block among those that come behind a path
 abbrev pub later_places : List ℕ → List ℕ → ℕ → List ℕ
@@ -44,20 +97,10 @@ places_append path more block =
 pub lengthens_places : (path longer : List ℕ) (block : ℕ) → Lengthens path longer → Lengthens (places_of path block) (places_of longer block)
 lengthens_places path longer block more = (later_places path more.0 block, ap (λ whole. places_of whole block) more.1 ∙ places_append path more.0 block)
 
-pub later_least : (path more : List ℕ) (block : ℕ) → AtLeast (length path) (later_places path more block)
-later_least path more block =
-    at_least_filter (λ place. get_or (path ++ more) place 0 == block) (length path) (range_with_len (length path) (length more)) (range_least (length path) (length more))
-
-pub places_rise : (path : List ℕ) (block : ℕ) → Rising (places_of path block)
-places_rise path block = rising_filter (λ place. get_or path place 0 == block) (range_with_len 0 (length path)) (range_rises 0 (length path))
-
--- a list has at least as many numbers as a filter keeps
-pub filter_shorter : (test : ℕ → Bool) (xs : List ℕ) → length (filter test xs) ≤ length xs
-filter_shorter test xs = omega (arith, length-filter test xs, count_by-le-length test xs)
-
-pub places_shorter : (path : List ℕ) (block : ℕ) → length (places_of path block) ≤ length path
-places_shorter path block =
-    omega (arith, filter_shorter (λ place. get_or path place 0 == block) (range_with_len 0 (length path)), length-range_with_len 0 (length path))
+pub later_above : (path more : List ℕ) (block : ℕ) → All (λ place. length path ≤ place) (later_places path more block)
+later_above path more block =
+    All-filter (λ place. get_or (path ++ more) place 0 == block) (λ place. length path ≤ place) (range_with_len (length path) (length more))
+    (range_holds (λ place. length path ≤ place) (length path) (length more) (λ k above below. above))
 
 -- a place that a path has is one of its places, by its number among those of the longer path
 place_within : (path more : List ℕ) (block k place : ℕ) → slice_get (places_of (path ++ more) block) k ≡ Some place → place < length path → k < length (places_of path block)
@@ -75,8 +118,7 @@ place_within path more block k place there within = by_order (cases_lt k (length
           arith,
           within,
           item,
-          at_least_at (length path) 0 (k - length (places_of path block)) later
-              (omega (arith, whole, above, length-append (places_of path block) later)) (later_least path more block),
+          later_above path more block (k - length (places_of path block)) 0 (omega (arith, whole, above, length-append (places_of path block) later)),
         ))
 
 -- a place in the view is one of the view's places

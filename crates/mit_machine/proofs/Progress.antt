@@ -1,5 +1,5 @@
 -- While a run has not ended something is offered.
-use Rattle.std.proofs.Common.{◌≡◌, ◌∙◌, ◌<◌, ◌≤◌, ◌+◌, ℕ, zero, suc, List, [], length, take, get_or, ap, sym, subst, refl, arith, cond, eqb, min, Bool, true, false, Option, Some, None, inl, inr}
+use Rattle.std.proofs.Common.{◌≡◌, ◌∙◌, ◌<◌, ◌≤◌, ◌+◌, ℕ, zero, suc, List, [], length, take, get_or, ap, sym, refl, arith, cond, eqb, min, Bool, true, false, Option, Some, None, inl, inr}
 use Rattle.std.specs.Prelude.{◌&&◌, IsSome, nat_le, nat_lt, option_map, slice_get}
 use Rattle.std.specs.List.{filter, list_all, list_any}
 use Rattle.std.proofs.lemmas.Bool.{and_from, cases_lt, eq-eqb, eqb-true, le-leb, lt-ltb, ltb-false, ltb-true}
@@ -10,14 +10,12 @@ use Rattle.mit_ops.specs.declared.faults.ScriptFault.{ScriptFault}
 use Rattle.mit_ops.specs.declared.routes.Route.{Route}
 use Rattle.mit_ops.specs.declared.routes.Route.TheVariants.{Forward, Gather, Broadcast, ByKey}
 use Rattle.mit_path.specs.declared.fate.Fate.TheVariants.{Send}
-use Rattle.mit_plan.specs.Bound.{most_places}
 use Rattle.mit_plan.specs.Chosen.{Choice, chosen, input_edges, input_numbers}
 use Rattle.mit_plan.specs.Explained.{Explained}
-use Rattle.mit_plan.specs.Held.{Job, op_of, run}
+use Rattle.mit_plan.specs.Held.{op_of}
 use Rattle.mit_plan.specs.Meant.{fault_at, last_block, pair}
 use Rattle.mit_plan.specs.Paths.{IsPath}
 use Rattle.mit_plan.specs.Plans.{edge_at, op_at}
-use Rattle.mit_plan.specs.Valid.{EdgesGoUp, RangesFollow}
 use Rattle.mit_machine.specs.Channels.{fate_of, is_send, is_target, made_places}
 use Rattle.mit_machine.specs.Offers.{bags_of, can_poll_at, has_come, offered, parts_of, released_in, sent_in}
 use Rattle.mit_machine.specs.Places.{Reports, front, front_index, heard_by, is_done, known, makes, own_places}
@@ -25,13 +23,14 @@ use Rattle.mit_machine.specs.Runs.{IsValid, Runs, ended, known_end}
 use Rattle.mit_machine.specs.State.{Machine, State}
 use Rattle.mit_machine.proofs.Choosing.{PathLaws, chosen_sends}
 use Rattle.mit_machine.proofs.Faults.{FaultLaw, front_fault}
-use Rattle.mit_machine.proofs.FrontInputs.{done_in, front_names, input_source, input_there, source_done}
-use Rattle.mit_machine.proofs.Fronts.{IsFront, front_is}
-use Rattle.mit_machine.proofs.KnownEnds.{PathStops, ended_there, whole_run}
+use Rattle.mit_machine.proofs.FrontInputs.{front_names, input_source, input_there, source_done}
+use Rattle.mit_machine.proofs.Fronts.{IsFront, done_in, front_is}
+use Rattle.mit_machine.proofs.KnownEnds.{PathStops, ended_there}
 use Rattle.mit_machine.proofs.Offering.{offers_bag, offers_block, offers_poll, offers_report}
-use Rattle.mit_machine.proofs.OwnPlaces.{came_of, in_order, not_yet, place_found, place_is}
-use Rattle.mit_machine.proofs.Searches.{any_at, any_filter, any_found, front_all, more_there, range_found}
+use Rattle.mit_machine.proofs.Places.{came_of, in_order, not_yet, place_found, place_is}
+use Rattle.mit_machine.proofs.Lists.{any_at, any_filter, any_found, front_all, more_there, range_found}
 use Rattle.mit_machine.proofs.Standing.{Names}
+use Rattle.mit_machine.proofs.WholePaths.{PartsExplained, explained_is, path_is}
 
 -- ---- routes
 
@@ -225,7 +224,7 @@ pub record Laws : Type 0 where
   pub paths : PathLaws
   pub stops : PathStops
   pub faulty : FaultLaw
-  pub explained : (job : Job) (places : ℕ) → RangesFollow job.plan → EdgesGoUp job.plan → Explained job (run job places).history
+  pub explained : PartsExplained
 
 no_fault : (fault : Option ScriptFault) → IsSome fault → option_map stopped fault ≡ None → ⊥
 no_fault None some none = cc
@@ -251,10 +250,10 @@ front_offers laws machine state runs valid less going = by_heard (list_all (repo
     is = front_is machine reports runs.plan.ranges less
 
     is_path : IsPath machine.job.plan machine.history.path
-    is_path = (whole_run laws.stops machine runs).path (omega (arith, is.entered))
+    is_path = path_is machine runs (omega (arith, is.entered))
 
     explained : Explained machine.job machine.history
-    explained = subst (Explained machine.job) (sym runs.history) (laws.explained machine.job (most_places machine.job.plan machine.job.decisions) runs.plan.ranges runs.plan.upward)
+    explained = explained_is laws.explained machine runs
 
     by_heard : (all : Bool) → list_all (reports (op_of machine.job.plan machine.history.path place index) place) (parts_of machine) ≡ all
         → cond all (option_map stopped (fault_at machine.job.plan machine.history (pair place index))) None ≡ None → 0 < length (offered machine state)

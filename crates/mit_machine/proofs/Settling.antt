@@ -1,8 +1,10 @@
 -- A longer view, and a further poll, send first what was sent before.
-use Rattle.std.proofs.Common.{◌≡◌, ◌≢◌, ◌<◌, ◌≤◌, ◌+◌, ℕ, List, [], ◌∷◌, ◌++◌, length, take, get_or, sym, subst, refl, arith, cond, inl, inr, Bool, true, false}
+use Rattle.std.proofs.Common.{◌≡◌, ◌≢◌, ◌<◌, ◌≤◌, ◌+◌, ℕ, suc, List, [], ◌∷◌, ◌++◌, length, take, get_or, sym, subst, refl, arith, cond, inl, inr, Bool, true, false}
 use Rattle.std.specs.Prelude.{⊤, ◌⊎◌}
-use Rattle.std.specs.List.{filter}
+use Rattle.std.specs.List.{All, filter}
 use Rattle.std.proofs.lemmas.List.{take_more}
+use Rattle.std.proofs.lemmas.List.Elements.{All-head, All-tail}
+use Rattle.std.proofs.lemmas.List.Kept.{AllPairs-filter}
 use Rattle.mit_path.specs.Fate.{fate}
 use Rattle.mit_path.specs.declared.fate.Fate.{Fate}
 use Rattle.mit_path.specs.declared.fate.Fate.TheVariants.{Send, Drop, Undecided}
@@ -12,9 +14,9 @@ use Rattle.mit_machine.specs.Places.{makes, own_places}
 use Rattle.mit_machine.specs.Runs.{Runs}
 use Rattle.mit_machine.specs.State.{Machine}
 use Rattle.mit_machine.proofs.Lengthens.{Lengthens, lengthens_cons, lengthens_filter, lengthens_none, lengthens_take}
-use Rattle.mit_machine.proofs.Rising.{AtLeast, Rising, at_least_below, rising_filter, rising_take}
+use Rattle.mit_machine.proofs.Lists.{Rising, rising_take}
 use Rattle.mit_machine.proofs.Places.{places_rise}
-use Rattle.mit_machine.proofs.Unfinished.{part_incomplete}
+use Rattle.mit_machine.proofs.WholePaths.{part_incomplete}
 
 -- what the laws of choice and fate say of fates
 pub record FateLaws : Type 0 where
@@ -27,8 +29,7 @@ pub record FateLaws : Type 0 where
 
 -- each of these waits
 abbrev AllWait : (ℕ → Fate) → List ℕ → Type 0
-AllWait of [] = ⊤
-AllWait of (place ∷ places) = (of place ≡ Undecided) × AllWait of places
+AllWait of places = All (λ place. of place ≡ Undecided) places
 
 -- behind one that waits all wait
 abbrev WaitLast : (ℕ → Fate) → List ℕ → Type 0
@@ -41,7 +42,9 @@ StaysDecided before after = (place : ℕ) → (before place ≡ Undecided) ⊎ (
 
 none_sent : (of : ℕ → Fate) (places : List ℕ) → AllWait of places → filter (λ place. is_send (of place)) places ≡ []
 none_sent of [] all = refl
-none_sent of (place ∷ places) all = rw all.0 (none_sent of places all.1)
+none_sent of (place ∷ places) all =
+    let here = All-head (λ place. of place ≡ Undecided) place places all in
+    rw here (none_sent of places (All-tail (λ place. of place ≡ Undecided) place places all))
 
 -- one place more at the front, by what came of it before
 sends_first_one : (before after : ℕ → Fate) (place : ℕ) (places : List ℕ) (was : Fate) → before place ≡ was → (was ≡ Undecided) ⊎ (after place ≡ was) → (was ≡ Undecided → AllWait before places)
@@ -62,14 +65,12 @@ sends_first before after [] stays last = lengthens_none []
 sends_first before after (place ∷ places) stays last =
     sends_first_one before after place places (before place) refl (stays place) last.0 (sends_first before after places stays last.1)
 
-all_wait : (of : ℕ → Fate) (place : ℕ) (places : List ℕ) → ((later : ℕ) → place ≤ later → of later ≡ Undecided) → AtLeast place places → AllWait of places
-all_wait of place [] waits all = tt
-all_wait of place (one ∷ places) waits all = (waits one all.0, all_wait of place places waits all.1)
-
 wait_last : (of : ℕ → Fate) (places : List ℕ) → ((place later : ℕ) → place ≤ later → of place ≡ Undecided → of later ≡ Undecided) → Rising places → WaitLast of places
 wait_last of [] waits rises = tt
 wait_last of (place ∷ places) waits rises =
-    ((λ undecided. all_wait of place places (λ later after. waits place later after undecided) (at_least_below place (place + 1) places (omega arith) rises.0)), wait_last of places waits rises.1)
+    let above : (k d : ℕ) → k < length places → place < get_or places k d = λ k d below. rises 0 (suc k) d (omega arith) (omega (arith, below)) in
+    let later : Rising places = λ i j d less below. rises (suc i) (suc j) d (omega (arith, less)) (omega (arith, below)) in
+    ((λ undecided k d below. waits place (get_or places k d) (omega (arith, above k d below)) undecided), wait_last of places waits later)
 
 -- ---- fates of a view
 
@@ -102,9 +103,9 @@ view_waits laws plan view edge part place later after =
 
 -- ---- what was sent
 
-pub made_rise : (machine : Machine) (op part polls : ℕ) → Rising (made_places machine op part polls)
+made_rise : (machine : Machine) (op part polls : ℕ) → Rising (made_places machine op part polls)
 made_rise machine op part polls =
-    rising_filter (λ place. makes machine op place part) (take polls (own_places machine.job.plan machine.history.path op))
+    AllPairs-filter (λ (one other : ℕ). one < other) (λ place. makes machine op place part) (take polls (own_places machine.job.plan machine.history.path op))
     (rising_take polls (own_places machine.job.plan machine.history.path op) (places_rise machine.history.path (op_at machine.job.plan op).block))
 
 if_lengthens : (test : Bool) (before after : List ℕ) → Lengthens before after → Lengthens (cond test before []) (cond test after [])

@@ -33,14 +33,14 @@ within first (one ∷ blocks) end (suc block) follow below =
     record { above = omega (arith, later.above); below = later.below }
 
 -- a range ends before each later one
-in_order : (first : ℕ) (blocks : List PlanBlock) (end one other : ℕ) → Follow first blocks end → one < other → other < length blocks → (nth blocks one).first + (nth blocks one).count ≤ (nth blocks other).first
-in_order first [] end one other follow less below = absurd (omega (arith, below))
-in_order first (block ∷ blocks) end zero zero follow less below = absurd (omega (arith, less))
-in_order first (block ∷ blocks) end zero (suc other) follow less below =
+ends_before : (first : ℕ) (blocks : List PlanBlock) (end one other : ℕ) → Follow first blocks end → one < other → other < length blocks → (nth blocks one).first + (nth blocks one).count ≤ (nth blocks other).first
+ends_before first [] end one other follow less below = absurd (omega (arith, below))
+ends_before first (block ∷ blocks) end zero zero follow less below = absurd (omega (arith, less))
+ends_before first (block ∷ blocks) end zero (suc other) follow less below =
     let later = within (first + block.count) blocks end other follow.1 (omega (arith, below)) in omega (arith, follow.0, later.above)
-in_order first (block ∷ blocks) end (suc one) zero follow less below = absurd (omega (arith, less))
-in_order first (block ∷ blocks) end (suc one) (suc other) follow less below =
-    in_order (first + block.count) blocks end one other follow.1 (omega (arith, less)) (omega (arith, below))
+ends_before first (block ∷ blocks) end (suc one) zero follow less below = absurd (omega (arith, less))
+ends_before first (block ∷ blocks) end (suc one) (suc other) follow less below =
+    ends_before (first + block.count) blocks end one other follow.1 (omega (arith, less)) (omega (arith, below))
 
 -- a block in which an operator stands is there
 is_block : (plan : PlanOf) (block index : ℕ) → index < (block_at plan block).count → block < length plan.blocks
@@ -71,9 +71,9 @@ names plan block index ranges stands =
         → ((op_at plan ((block_at plan block).first + index)).block < block) ⊎ (block ≤ (op_at plan ((block_at plan block).first + index)).block)
         → (block < (op_at plan ((block_at plan block).first + index)).block) ⊎ ((op_at plan ((block_at plan block).first + index)).block ≤ block) → Names plan block index
     by_order some below own (inl less) other =
-        absurd (omega (arith, own.number, own.index, in_order 0 plan.blocks (length plan.ops) (op_at plan ((block_at plan block).first + index)).block block ranges.follow less below))
+        absurd (omega (arith, own.number, own.index, ends_before 0 plan.blocks (length plan.ops) (op_at plan ((block_at plan block).first + index)).block block ranges.follow less below))
     by_order some below own (inr more) (inl less) =
-        absurd (omega (arith, own.number, stands, in_order 0 plan.blocks (length plan.ops) block (op_at plan ((block_at plan block).first + index)).block ranges.follow less own.block))
+        absurd (omega (arith, own.number, stands, ends_before 0 plan.blocks (length plan.ops) block (op_at plan ((block_at plan block).first + index)).block ranges.follow less own.block))
     by_order some below own (inr more) (inr less) =
         let same : (op_at plan ((block_at plan block).first + index)).block ≡ block = omega (arith, more, less) in
         let first : (block_at plan (op_at plan ((block_at plan block).first + index)).block).first ≡ (block_at plan block).first = ap (λ (b : ℕ). (block_at plan b).first) same in

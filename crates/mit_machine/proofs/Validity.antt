@@ -6,26 +6,16 @@ use Rattle.std.proofs.lemmas.List.Sums.{AllPass-from_list_all}
 use Rattle.std.proofs.lemmas.Option.{get_or_from_slice_get, slice_get_within}
 use Rattle.mit_plan.specs.Plans.{op_at}
 use Rattle.mit_machine.specs.Offers.{bags_of, is_enabled, offered, released_in, sent_in}
-use Rattle.mit_machine.specs.Places.{heard_by, makes, own_places}
+use Rattle.mit_machine.specs.Places.{makes, own_places}
 use Rattle.mit_machine.specs.Runs.{IsPolled, IsValid, Runs}
-use Rattle.mit_machine.specs.State.{Action, Machine, State, after, first_state, hear, learn, poll, raised_in, take_bag}
-use Rattle.mit_machine.proofs.Fed.{fed_after, sent_learn, sent_poll}
+use Rattle.mit_machine.specs.State.{Action, Machine, State, after, first_state, hear, learn, poll, take_bag}
+use Rattle.mit_machine.proofs.Fed.{fed_after, sent_later}
 use Rattle.mit_machine.proofs.Lengthens.{lengthens_length, lengthens_take}
-use Rattle.mit_machine.proofs.Monotone.{heard_more, released_more}
+use Rattle.mit_machine.proofs.Monotone.{released_later}
 use Rattle.mit_machine.proofs.Offered.{PollsAt, has_left, has_left_of_first, offered_enabled, polls_at}
 use Rattle.mit_machine.proofs.Places.{lengthens_places, in_view}
-use Rattle.mit_machine.proofs.Raised.{raised_bag_cases, raised_cases, raised_in_cases, raised_in_least}
+use Rattle.mit_machine.proofs.Raised.{raised_bag_cases, raised_cases, raised_in_cases}
 use Rattle.mit_machine.proofs.Settling.{FateLaws}
-
--- ---- what is released
-
-pub released_later : (machine : Machine) (state : State) (action : Action) → released_in machine state ≤ released_in machine (after action state)
-released_later machine state (learn part) = omega arith
-released_later machine state (hear op part) =
-    released_more machine (heard_by machine state.heard) (heard_by machine (raised_in op part state.heard))
-    (heard_more machine state.heard (raised_in op part state.heard) (λ other from. raised_in_least op part other from state.heard))
-released_later machine state (take_bag edge from to) = omega arith
-released_later machine state (poll op part) = omega arith
 
 -- ---- the first state
 
@@ -67,7 +57,7 @@ valid_learn laws machine state part runs valid enabled =
           omega (
             arith,
             valid.taken edge from to,
-            lengthens_length (sent_in machine state edge from to) (sent_in machine (after (learn part) state) edge from to) (sent_learn laws machine state part edge from to runs enabled),
+            lengthens_length (sent_in machine state edge from to) (sent_in machine (after (learn part) state) edge from to) (sent_later laws machine state (learn part) edge from to runs enabled),
           );
     }
 
@@ -129,7 +119,7 @@ valid_poll laws machine state op part runs valid enabled =
           omega (
             arith,
             valid.taken edge from to,
-            lengthens_length (sent_in machine state edge from to) (sent_in machine (after (poll op part) state) edge from to) (sent_poll machine state op part edge from to),
+            lengthens_length (sent_in machine state edge from to) (sent_in machine (after (poll op part) state) edge from to) (sent_later laws machine state (poll op part) edge from to runs enabled),
           );
     }
 

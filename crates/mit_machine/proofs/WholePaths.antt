@@ -1,19 +1,24 @@
--- Runs: their paths are paths of the plan, they go on from their last block, and they take no more decisions than they may.
+-- Runs: their paths are paths of the plan, they go on from their last block, and they take no more places and decisions than they may.
 use Rattle.std.proofs.Common.{◌≡◌, ◌∙◌, ◌<◌, ◌≤◌, ◌+◌, ◌-◌, ℕ, zero, suc, List, [], ◌∷◌, ◌++◌, length, take, get_or, ap, ap₂, sym, subst, refl, arith, cond, ltb-true, Bool, true, false, Option, Some, None, inl, inr}
 use Rattle.std.specs.Prelude.{◌⊎◌, Contains, count_by, nat_lt}
-use Rattle.std.proofs.lemmas.Bool.{cases_lt}
-use Rattle.std.proofs.lemmas.List.{get_or_append_left, get_or_push, length_push, take_all, take_at}
+use Rattle.std.proofs.lemmas.Bool.{and_right, cases_lt}
+use Rattle.std.proofs.lemmas.List.{get_or-take, get_or_append_left, get_or_push, length-take-le, length_push, take_all, take_at}
 use Rattle.std.proofs.lemmas.List.Sums.{sum_by_push}
 use Rattle.std.proofs.lemmas.Option.{same_Some}
 use Rattle.mit_ops.specs.Endings.{truth_in}
 use Rattle.mit_ops.specs.declared.leave.Leave.{Leave}
 use Rattle.mit_ops.specs.declared.leave.Leave.TheVariants.{Jump, Branch, End}
+use Rattle.mit_plan.specs.Bound.{most_places}
+use Rattle.mit_plan.specs.Explained.{Explained}
 use Rattle.mit_plan.specs.Held.{History, Job, Part, Run, decided, decisions_before, enters, failed, follows, goes_on, held, ok, run, void}
 use Rattle.mit_plan.specs.Meant.{last_block}
 use Rattle.mit_plan.specs.Paths.{IsPath, next_of}
 use Rattle.mit_plan.specs.Plans.{PlanOf, block_at}
-use Rattle.mit_plan.specs.Valid.{is_branch}
+use Rattle.mit_plan.specs.Valid.{EdgesGoUp, RangesFollow, is_branch, is_end}
 use Rattle.mit_plan.specs.declared.plan.PlanBlock.{PlanBlock}
+use Rattle.mit_machine.specs.Channels.{is_complete}
+use Rattle.mit_machine.specs.Runs.{Runs}
+use Rattle.mit_machine.specs.State.{Machine}
 
 -- ---- what comes next
 
@@ -153,3 +158,50 @@ run_is job zero = record {
   most = λ next is. omega arith;
 }
 run_is job (suc places) = goes_on_is job (run job places).history (run job places).next (run_is job places)
+
+goes_on_length : (job : Job) (history : History) (next : Option ℕ) → length (goes_on job history next).history.path ≤ length history.path + 1
+goes_on_length job history None = omega arith
+goes_on_length job history (Some block) = omega (arith, length_push history.path block)
+
+run_length : (job : Job) (places : ℕ) → length (run job places).history.path ≤ places
+unfolding run
+run_length job zero = omega arith
+run_length job (suc places) = omega (arith, goes_on_length job (run job places).history (run job places).next, run_length job places)
+
+-- ---- the path of what runs
+
+pub path_length : (machine : Machine) → Runs machine → length machine.history.path ≤ most_places machine.job.plan machine.job.decisions
+path_length machine runs =
+    subst (λ (history : History). length history.path ≤ most_places machine.job.plan machine.job.decisions) (sym runs.history)
+    (run_length machine.job (most_places machine.job.plan machine.job.decisions))
+
+pub path_is : (machine : Machine) → Runs machine → 0 < length machine.history.path → IsPath machine.job.plan machine.history.path
+path_is machine runs =
+    subst (λ (history : History). 0 < length history.path → IsPath machine.job.plan history.path) (sym runs.history)
+    (run_is machine.job (most_places machine.job.plan machine.job.decisions)).path
+
+-- a block after which one may come isn't the end
+no_end : (leave : Leave) (next : ℕ) → Contains (next_of leave) next → is_end leave ≡ false
+no_end (Jump other) next has = refl
+no_end (Branch on_true on_false) next has = refl
+no_end End next has = absurd (omega (arith, has.1))
+
+-- what is seen of a path is complete where it is the whole path alone
+pub part_incomplete : (machine : Machine) → Runs machine → (seen : ℕ) → seen < length machine.history.path → is_complete machine.job.plan (take seen machine.history.path) ≡ false
+part_incomplete machine runs zero below = refl
+part_incomplete machine runs (suc n) below =
+    let path = machine.history.path in
+    let many : length (take (suc n) path) ≡ suc n = length-take-le (suc n) path (omega (arith, below)) in
+    let last : length (take (suc n) path) - 1 ≡ n = omega (arith, many) in
+    and_right (nat_lt 0 (length (take (suc n) path))) (is_end (block_at machine.job.plan (get_or (take (suc n) path) (length (take (suc n) path) - 1) 0)).leave)
+    (ap (λ (at : ℕ). is_end (block_at machine.job.plan (get_or (take (suc n) path) at 0)).leave) last
+    ∙ ap (λ (block : ℕ). is_end (block_at machine.job.plan block).leave) (get_or-take (suc n) path n 0 (omega arith))
+    ∙ no_end (block_at machine.job.plan (get_or path n 0)).leave (get_or path (suc n) 0) ((path_is machine runs (omega (arith, below))).leads n below))
+
+-- that the parts of a run are explained
+abbrev pub PartsExplained : Type 0
+PartsExplained = (job : Job) (places : ℕ) → RangesFollow job.plan → EdgesGoUp job.plan → Explained job (run job places).history
+
+pub explained_is : PartsExplained → (machine : Machine) → Runs machine → Explained machine.job machine.history
+explained_is explained machine runs =
+    subst (Explained machine.job) (sym runs.history) (explained machine.job (most_places machine.job.plan machine.job.decisions) runs.plan.ranges runs.plan.upward)

@@ -1,7 +1,8 @@
+use Rattle.mit_machine.proofs.Fed.{fed_by_all}
+use Rattle.mit_machine.proofs.Monotone.{released_later, within_window}
 use Rattle.mit_machine.proofs.Picks.{after_picks_valid}
 use Rattle.mit_machine.proofs.Settling.{FateLaws}
-use Rattle.mit_machine.proofs.Validity.{first_valid, offered_valid, released_later}
-use Rattle.mit_machine.proofs.Window.{fed_by_all, within_window}
+use Rattle.mit_machine.proofs.Validity.{first_valid, offered_valid}
 use Rattle.mit_machine.proofs.laws.states_law.Goals as goal
 
 pub returns : goal.returns
