@@ -11,7 +11,7 @@ use Rattle.mit_plan.specs.Plans.{edge_at, op_at}
 use Rattle.mit_machine.specs.Channels.{fate_of, is_send, is_target, made_places, sent_places}
 use Rattle.mit_machine.specs.Offers.{offered, released_in}
 use Rattle.mit_machine.specs.Places.{heard_by, makes, own_places}
-use Rattle.mit_machine.specs.Runs.{IsValid, Runs, sum_over, total}
+use Rattle.mit_machine.specs.Runs.{IsValidState, Runs, sum_over, total}
 use Rattle.mit_machine.specs.State.{Action, Machine, State, after, hear, learn, poll, raised, raised_in, take_bag}
 use Rattle.mit_machine.proofs.Fronts.{known_most}
 use Rattle.mit_machine.proofs.Offered.{IsWithin, offered_within}
@@ -131,7 +131,7 @@ sent_most machine edge from to seen polls = by_target (is_target machine edge fr
 bound_is : (most parts ops edges : ℕ) → parts * most + ops * (parts * most) + ops * (parts * most) + edges * (parts * (parts * most)) ≡ most * parts * (1 + 2 * ops + edges * parts)
 bound_is most parts ops edges = grind arith
 
-pub total_most : (machine : Machine) (state : State) → Runs machine → IsValid machine state → total machine state ≤ most_actions machine.job.plan machine.job.decisions machine.job.partitions
+pub total_most : (machine : Machine) (state : State) → Runs machine → IsValidState machine state → total machine state ≤ most_actions machine.job.plan machine.job.decisions machine.job.partitions
 total_most machine state runs valid =
     let most = most_places machine.job.plan machine.job.decisions in
     let parts = machine.job.partitions in

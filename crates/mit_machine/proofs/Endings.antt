@@ -16,7 +16,7 @@ use Rattle.mit_plan.specs.Meant.{answer_in, at_end, ending_of, fault_at, fault_i
 use Rattle.mit_plan.specs.Plans.{block_at, op_at}
 use Rattle.mit_plan.specs.Valid.{RangesFollow}
 use Rattle.mit_plan.specs.declared.plan.PlanBlock.{PlanBlock}
-use Rattle.mit_machine.specs.Offers.{parts_of}
+use Rattle.mit_machine.specs.Offers.{all_parts}
 use Rattle.mit_machine.specs.Places.{Reports, front, front_index, heard_by, is_done, known}
 use Rattle.mit_machine.specs.Runs.{Runs, ended, ended_by, known_end}
 use Rattle.mit_machine.specs.State.{Machine, State}
@@ -151,13 +151,13 @@ ending_by machine reports ending runs facts is =
 
     by_test : (test : Bool) → nat_lt (front machine reports) (known machine reports) ≡ test
         → cond test
-        (cond (list_all (reports (op_of machine.job.plan machine.history.path (front machine reports) (front_index machine reports)) (front machine reports)) (parts_of machine))
+        (cond (list_all (reports (op_of machine.job.plan machine.history.path (front machine reports) (front_index machine reports)) (front machine reports)) (all_parts machine))
         (option_map stopped (fault_at machine.job.plan machine.history (pair (front machine reports) (front_index machine reports)))) None)
         (known_end machine (take (known machine reports) machine.history.path) (last_block machine.job.plan (take (known machine reports) machine.history.path))
         (last_block machine.job.plan (take (known machine reports) machine.history.path)).leave) ≡ Some ending
         → ending ≡ ending_of machine.job machine.history
     by_test true less is =
-        by_heard (list_all (reports (op_of machine.job.plan machine.history.path (front machine reports) (front_index machine reports)) (front machine reports)) (parts_of machine))
+        by_heard (list_all (reports (op_of machine.job.plan machine.history.path (front machine reports) (front_index machine reports)) (front machine reports)) (all_parts machine))
         (ltb-true (front machine reports) (known machine reports) less) is
     by_test false less is = path_ends machine reports ending runs facts (ltb-false (front machine reports) (known machine reports) less) is
 

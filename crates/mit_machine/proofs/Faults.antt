@@ -19,8 +19,8 @@ use Rattle.mit_plan.specs.Paths.{IsPath}
 use Rattle.mit_plan.specs.Plans.{PlanOf, edge_at, edges_to, is_phi, op_at}
 use Rattle.mit_plan.specs.Sums.{AreRouted, Takes, bag_at, bag_taken, bags_of}
 use Rattle.mit_plan.specs.Types.{AreTypes, type_at}
-use Rattle.mit_plan.specs.Valid.{InputsHaveEdges, IsValid as IsValidPlan, RoutesFit}
-use Rattle.mit_machine.specs.Offers.{parts_of}
+use Rattle.mit_plan.specs.Valid.{InputsHaveEdges, IsValid, RoutesFit}
+use Rattle.mit_machine.specs.Offers.{all_parts}
 use Rattle.mit_machine.specs.Places.{Reports, is_done, makes}
 use Rattle.mit_machine.specs.State.{Machine}
 use Rattle.mit_machine.proofs.Choosing.{PathLaws, one_edge}
@@ -122,7 +122,7 @@ routed_phi plan types op are routes phi copy input =
     by_input (suc input) = All-nil (λ edge. (edge_at plan edge).route ≡ route_to (op_at plan op).spec (suc input) 0)
 
 -- the inputs of an operator have so many columns, and their edges the routes for them
-routed : (plan : PlanOf) (op : ℕ) → IsValidPlan plan → op < length plan.ops → (columns : ℕ → ℕ) × AreRouted plan op columns
+routed : (plan : PlanOf) (op : ℕ) → IsValid plan → op < length plan.ops → (columns : ℕ → ℕ) × AreRouted plan op columns
 routed plan op valid some = by_kind (is_phi (op_at plan op)) refl
   where
     by_kind : (phi : Bool) → is_phi (op_at plan op) ≡ phi → (columns : ℕ → ℕ) × AreRouted plan op columns
@@ -132,7 +132,7 @@ routed plan op valid some = by_kind (is_phi (op_at plan op)) refl
 -- ---- the front's fault
 
 -- the front's operator takes its bags
-front_takes : PathLaws → (machine : Machine) (reports : Reports) (place index : ℕ) → IsValidPlan machine.job.plan → IsPath machine.job.plan machine.history.path → IsFront machine reports place index
+front_takes : PathLaws → (machine : Machine) (reports : Reports) (place index : ℕ) → IsValid machine.job.plan → IsPath machine.job.plan machine.history.path → IsFront machine reports place index
     → (columns : ℕ → ℕ) × (bags : List BagOf) × Takes machine.job machine.history place index columns bags
 front_takes laws machine reports place index valid is_path front =
     let route = routed machine.job.plan (op_of machine.job.plan machine.history.path place index) valid own.below in
@@ -160,7 +160,7 @@ front_takes laws machine reports place index valid is_path front =
         ap (is_some {T = BagOf}) (ap (bag_at machine.job machine.history earlier) (sym own.index_is) ∙ bag.1)
 
 -- where it was heard from every partition, it isn't ok in one
-faulty_part : (machine : Machine) (reports : Reports) (op place : ℕ) → is_done machine reports op place ≡ false → list_all (reports op place) (parts_of machine) ≡ true
+faulty_part : (machine : Machine) (reports : Reports) (op place : ℕ) → is_done machine reports op place ≡ false → list_all (reports op place) (all_parts machine) ≡ true
     → (part : ℕ) × (part < machine.job.partitions) × (makes machine op place part ≡ false)
 faulty_part machine reports op place undone heard =
     let one = range_found (λ part. reports op place part && makes machine op place part) 0 machine.job.partitions undone in
@@ -178,9 +178,9 @@ abbrev pub FaultLaw : Type 0
 FaultLaw = (job : Job) (history : History) (place index : ℕ) (columns : ℕ → ℕ) (bags : List BagOf) → Explained job history → 0 < job.partitions → Takes job history place index columns bags
     → bag_at job history place index ≡ None → IsSome (fault_at job.plan history (pair place index))
 
-pub front_fault : PathLaws → FaultLaw → (machine : Machine) (reports : Reports) (place index : ℕ) → IsValidPlan machine.job.plan → IsPath machine.job.plan machine.history.path
+pub front_fault : PathLaws → FaultLaw → (machine : Machine) (reports : Reports) (place index : ℕ) → IsValid machine.job.plan → IsPath machine.job.plan machine.history.path
     → Explained machine.job machine.history → 0 < machine.job.partitions → IsFront machine reports place index
-    → list_all (reports (op_of machine.job.plan machine.history.path place index) place) (parts_of machine) ≡ true → IsSome (fault_at machine.job.plan machine.history (pair place index))
+    → list_all (reports (op_of machine.job.plan machine.history.path place index) place) (all_parts machine) ≡ true → IsSome (fault_at machine.job.plan machine.history (pair place index))
 front_fault laws faulty machine reports place index valid is_path explained some front heard =
     let op = op_of machine.job.plan machine.history.path place index in
     let own = front_names machine reports place index valid front in

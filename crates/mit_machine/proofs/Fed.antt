@@ -7,9 +7,9 @@ use Rattle.mit_plan.specs.Chosen.{Choice, chosen, input_numbers}
 use Rattle.mit_plan.specs.Held.{senders}
 use Rattle.mit_plan.specs.Plans.{edge_at}
 use Rattle.mit_machine.specs.Channels.{sent_places}
-use Rattle.mit_machine.specs.Offers.{Bags, all_come, bags_of, can_poll, can_poll_at, has_come, is_enabled, released_in, sent_in}
-use Rattle.mit_machine.specs.Places.{is_among, makes, own_places}
-use Rattle.mit_machine.specs.Runs.{IsValid, Runs}
+use Rattle.mit_machine.specs.Offers.{Bags, all_come, bags_taken, can_poll, can_poll_at, has_come, is_enabled, released_in, sent_in}
+use Rattle.mit_machine.specs.Places.{is_counted, makes, own_places}
+use Rattle.mit_machine.specs.Runs.{IsValidState, Runs}
 use Rattle.mit_machine.specs.State.{Action, Machine, State, after, hear, learn, poll, take_bag}
 use Rattle.mit_machine.proofs.Lengthens.{Lengthens, lengthens_first, lengthens_none}
 use Rattle.mit_machine.proofs.Lists.{all_more, any_on, any_take, each_passes}
@@ -54,7 +54,7 @@ taken_later state (poll op part) edge from to = omega arith
 
 -- ---- the bags that came
 
-among_longer : (few many : ℕ) (xs ys : List ℕ) (place : ℕ) → few ≤ many → Lengthens xs ys → is_among few xs place ≡ true → is_among many ys place ≡ true
+among_longer : (few many : ℕ) (xs ys : List ℕ) (place : ℕ) → few ≤ many → Lengthens xs ys → is_counted few xs place ≡ true → is_counted many ys place ≡ true
 among_longer few many xs ys place below longer any =
     let test : ℕ → Bool = λ other. other == place in
     let taken = lengthens_first many xs ys longer in
@@ -65,7 +65,7 @@ abbrev BagsMore : Bags → Bags → Type 0
 BagsMore few many = (edge from place : ℕ) → few edge from place ≡ true → many edge from place ≡ true
 
 bags_later : FateLaws → (machine : Machine) (state : State) (action : Action) (part : ℕ) → Runs machine → is_enabled machine state action ≡ true
-    → BagsMore (bags_of machine state part) (bags_of machine (after action state) part)
+    → BagsMore (bags_taken machine state part) (bags_taken machine (after action state) part)
 bags_later laws machine state action part runs enabled edge from place =
     among_longer (state.taken edge from part) ((after action state).taken edge from part) (sent_in machine state edge from part) (sent_in machine (after action state) edge from part) place
     (taken_later state action edge from part) (sent_later laws machine state action edge from part runs enabled)
@@ -87,12 +87,12 @@ all_come_more machine few many op part place more come =
 -- the bags of a place had come
 abbrev pub IsFed : Machine → State → ℕ → ℕ → ℕ → Type 0
 IsFed machine state op part polls = (count place : ℕ) → count < polls → slice_get (own_places machine.job.plan machine.history.path op) count ≡ Some place
-    → all_come machine (bags_of machine state part) op part place ≡ true
+    → all_come machine (bags_taken machine state part) op part place ≡ true
 
 fed_later : FateLaws → (machine : Machine) (state : State) (action : Action) (op part : ℕ) → Runs machine → is_enabled machine state action ≡ true
     → IsFed machine state op part (state.polls op part) → IsFed machine (after action state) op part (state.polls op part)
 fed_later laws machine state action op part runs enabled fed count place less is =
-    all_come_more machine (bags_of machine state part) (bags_of machine (after action state) part) op part place (bags_later laws machine state action part runs enabled) (fed count place less is)
+    all_come_more machine (bags_taken machine state part) (bags_taken machine (after action state) part) op part place (bags_later laws machine state action part runs enabled) (fed count place less is)
 
 -- where an operator can be polled the bags of the place have come
 came_at : (machine : Machine) (bags : Bags) (op part seen polls place : ℕ) → slice_get (own_places machine.job.plan machine.history.path op) polls ≡ Some place
@@ -105,15 +105,15 @@ fed_poll : (machine : Machine) (state : State) (op part : ℕ) → is_enabled ma
     → IsFed machine state op part (state.polls op part + 1)
 fed_poll machine state op part enabled fed count place less is = by_order (cases_lt count (state.polls op part))
   where
-    by_order : (count < state.polls op part) ⊎ (state.polls op part ≤ count) → all_come machine (bags_of machine state part) op part place ≡ true
+    by_order : (count < state.polls op part) ⊎ (state.polls op part ≤ count) → all_come machine (bags_taken machine state part) op part place ≡ true
     by_order (inl earlier) = fed count place earlier is
     by_order (inr last) =
         let same : count ≡ state.polls op part = omega (arith, less, last) in
-        came_at machine (bags_of machine state part) op part (state.seen part) (state.polls op part) place
+        came_at machine (bags_taken machine state part) op part (state.seen part) (state.polls op part) place
         (subst (λ (n : ℕ). slice_get (own_places machine.job.plan machine.history.path op) n ≡ Some place) same is) enabled
 
 -- what is polled, after an action, was polled after its bags had come
-pub fed_after : FateLaws → (machine : Machine) (state : State) (action : Action) (op part : ℕ) → Runs machine → IsValid machine state → is_enabled machine state action ≡ true
+pub fed_after : FateLaws → (machine : Machine) (state : State) (action : Action) (op part : ℕ) → Runs machine → IsValidState machine state → is_enabled machine state action ≡ true
     → IsFed machine (after action state) op part ((after action state).polls op part)
 fed_after laws machine state (learn other) op part runs valid enabled = fed_later laws machine state (learn other) op part runs enabled (valid.fed op part)
 fed_after laws machine state (hear other from) op part runs valid enabled = fed_later laws machine state (hear other from) op part runs enabled (valid.fed op part)
@@ -126,16 +126,16 @@ fed_after laws machine state (poll other from) op part runs valid enabled =
     by_this : op ≡ other → part ≡ from → IsFed machine (after (poll other from) state) op part (state.polls op part + 1)
     by_this same own count place less is =
         let can : is_enabled machine state (poll op part) ≡ true = ap (λ (one : ℕ). is_enabled machine state (poll one part)) same ∙ ap (λ (one : ℕ). is_enabled machine state (poll other one)) own ∙ enabled in
-        all_come_more machine (bags_of machine state part) (bags_of machine (after (poll other from) state) part) op part place
+        all_come_more machine (bags_taken machine state part) (bags_taken machine (after (poll other from) state) part) op part place
         (bags_later laws machine state (poll other from) part runs enabled) (fed_poll machine state op part can (valid.fed op part) count place less is)
 
 -- what was polled had its bags from every sender
-pub fed_by_all : (machine : Machine) (state : State) (op part count place input from : ℕ) (choice : Choice) → IsValid machine state → count < state.polls op part
+pub fed_by_all : (machine : Machine) (state : State) (op part count place input from : ℕ) (choice : Choice) → IsValidState machine state → count < state.polls op part
     → slice_get (own_places machine.job.plan machine.history.path op) count ≡ Some place → Contains (input_numbers machine.job.plan op) input
     → chosen machine.job.plan machine.history.path op input place ≡ Some choice → Contains (senders machine.job (edge_at machine.job.plan choice.edge) part) from
-    → bags_of machine state part choice.edge from choice.place ≡ true
+    → bags_taken machine state part choice.edge from choice.place ≡ true
 fed_by_all machine state op part count place input from choice valid less there has is sends =
-    let bags : Bags = bags_of machine state part in
+    let bags : Bags = bags_taken machine state part in
     let came = each_passes (λ one. has_come machine bags part (chosen machine.job.plan machine.history.path op one place)) (input_numbers machine.job.plan op) input
     (valid.fed op part count place less there) has in
     each_passes (λ one. bags choice.edge one choice.place) (senders machine.job (edge_at machine.job.plan choice.edge) part) from

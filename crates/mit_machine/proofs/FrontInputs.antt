@@ -5,7 +5,7 @@ use Rattle.mit_plan.specs.Chosen.{Choice, chosen, input_edges}
 use Rattle.mit_plan.specs.Held.{op_of}
 use Rattle.mit_plan.specs.Paths.{IsPath}
 use Rattle.mit_plan.specs.Plans.{edge_at, op_at}
-use Rattle.mit_plan.specs.Valid.{IsValid as IsValidPlan}
+use Rattle.mit_plan.specs.Valid.{IsValid}
 use Rattle.mit_machine.specs.Places.{Reports, is_done}
 use Rattle.mit_machine.specs.State.{Machine}
 use Rattle.mit_machine.proofs.Choosing.{IsSource, PathLaws, chosen_source, chosen_there}
@@ -13,12 +13,12 @@ use Rattle.mit_machine.proofs.Fronts.{IsFront}
 use Rattle.mit_machine.proofs.Standing.{Names, names, stands_in}
 
 -- the front's operator, by its number
-pub front_names : (machine : Machine) (reports : Reports) (place index : ℕ) → IsValidPlan machine.job.plan → IsFront machine reports place index
+pub front_names : (machine : Machine) (reports : Reports) (place index : ℕ) → IsValid machine.job.plan → IsFront machine reports place index
     → Names machine.job.plan (get_or machine.history.path place 0) index
 front_names machine reports place index valid front = names machine.job.plan (get_or machine.history.path place 0) index valid.ranges front.stands
 
 -- each of its inputs has something to choose
-pub input_there : (machine : Machine) (reports : Reports) (place index input : ℕ) → IsValidPlan machine.job.plan → IsPath machine.job.plan machine.history.path → IsFront machine reports place index
+pub input_there : (machine : Machine) (reports : Reports) (place index input : ℕ) → IsValid machine.job.plan → IsPath machine.job.plan machine.history.path → IsFront machine reports place index
     → let op = op_of machine.job.plan machine.history.path place index in
     input < length (input_edges machine.job.plan op) → (choice : Choice) × (chosen machine.job.plan machine.history.path op input place ≡ Some choice)
 input_there machine reports place index input valid is_path front below =
@@ -26,7 +26,7 @@ input_there machine reports place index input valid is_path front below =
     let op = op_of machine.job.plan machine.history.path place index in
     chosen_there machine.job.plan machine.history.path op input place (valid.places machine.history.path is_path place front.entered op own.below own.block_is) below
 
-pub input_source : PathLaws → (machine : Machine) (reports : Reports) (place index input : ℕ) (choice : Choice) → IsValidPlan machine.job.plan → IsFront machine reports place index
+pub input_source : PathLaws → (machine : Machine) (reports : Reports) (place index input : ℕ) (choice : Choice) → IsValid machine.job.plan → IsFront machine reports place index
     → let op = op_of machine.job.plan machine.history.path place index in
     chosen machine.job.plan machine.history.path op input place ≡ Some choice → IsSource machine.job.plan machine.history.path op place choice
 input_source laws machine reports place index input choice valid front is =
@@ -34,7 +34,7 @@ input_source laws machine reports place index input choice valid front is =
     chosen_source laws machine.job.plan machine.history.path (op_of machine.job.plan machine.history.path place index) input place choice valid.inputs valid.upward own.block_is is
 
 -- and what is chosen is done
-pub source_done : (machine : Machine) (reports : Reports) (place index : ℕ) (choice : Choice) → IsValidPlan machine.job.plan → IsFront machine reports place index
+pub source_done : (machine : Machine) (reports : Reports) (place index : ℕ) (choice : Choice) → IsValid machine.job.plan → IsFront machine reports place index
     → IsSource machine.job.plan machine.history.path (op_of machine.job.plan machine.history.path place index) place choice
     → is_done machine reports (edge_at machine.job.plan choice.edge).from choice.place ≡ true
 source_done machine reports place index choice valid front source = by_place source.before

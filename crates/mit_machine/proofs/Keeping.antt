@@ -11,7 +11,7 @@ use Rattle.mit_path.specs.Fate.{is_among, is_superseded}
 use Rattle.mit_plan.specs.Chosen.{Choice, chosen, input_edges, input_numbers}
 use Rattle.mit_plan.specs.Plans.{PlanOf, edge_at, is_phi, op_at, source_block}
 use Rattle.mit_machine.specs.Channels.{is_complete, siblings_of}
-use Rattle.mit_machine.specs.Kept.{chooses, is_kept, takes}
+use Rattle.mit_machine.specs.Kept.{chooses, is_part_kept, takes}
 use Rattle.mit_machine.specs.Places.{own_places}
 use Rattle.mit_machine.specs.Runs.{Runs}
 use Rattle.mit_machine.specs.State.{Machine}
@@ -153,7 +153,7 @@ wanted_of true superseded is kept = refl
 wanted_of false superseded is kept = cc
 
 -- a view that isn't complete
-kept_open : LongerLaws → (plan : PlanOf) (path more : List ℕ) (further polls edge place : ℕ) → is_kept plan (path ++ more) (further + polls) edge place ≡ true
+kept_open : LongerLaws → (plan : PlanOf) (path more : List ℕ) (further polls edge place : ℕ) → is_part_kept plan (path ++ more) (further + polls) edge place ≡ true
     → (Wanted plan path polls edge place || not (is_superseded path (source_of plan edge) place (siblings_of plan edge) false)) ≡ true
 kept_open laws plan path more further polls edge place kept =
     let complete = is_complete plan (path ++ more) in
@@ -163,7 +163,7 @@ kept_open laws plan path more further polls edge place kept =
     (laws.superseded path more (source_of plan edge) place (siblings_of plan edge) complete superseded) kept))
 
 -- the same view after fewer polls
-kept_fewer : (plan : PlanOf) (path : List ℕ) (further polls edge place : ℕ) → is_kept plan path (further + polls) edge place ≡ true → is_kept plan path polls edge place ≡ true
+kept_fewer : (plan : PlanOf) (path : List ℕ) (further polls edge place : ℕ) → is_part_kept plan path (further + polls) edge place ≡ true → is_part_kept plan path polls edge place ≡ true
 kept_fewer plan path further polls edge place kept =
     let own = own_places plan path (edge_at plan edge).to in
     let superseded = is_superseded path (source_of plan edge) place (siblings_of plan edge) (is_complete plan path) in
@@ -171,13 +171,13 @@ kept_fewer plan path further polls edge place kept =
     (λ is. any_of_more (chooses plan path edge place) further polls own (wanted_of (Wanted plan path (further + polls) edge place) superseded is kept))
 
 kept_before : LongerLaws → (plan : PlanOf) (path more : List ℕ) (further polls edge place : ℕ) → (is_complete plan path ≡ true → more ≡ [])
-    → is_kept plan (path ++ more) (further + polls) edge place ≡ true → is_kept plan path polls edge place ≡ true
+    → is_part_kept plan (path ++ more) (further + polls) edge place ≡ true → is_part_kept plan path polls edge place ≡ true
 kept_before laws plan path more further polls edge place ends kept = by_complete (is_complete plan path) refl
   where
-    by_complete : (complete : Bool) → is_complete plan path ≡ complete → is_kept plan path polls edge place ≡ true
+    by_complete : (complete : Bool) → is_complete plan path ≡ complete → is_part_kept plan path polls edge place ≡ true
     by_complete true is =
         kept_fewer plan path further polls edge place
-        (ap (λ (view : List ℕ). is_kept plan view (further + polls) edge place) (sym (append-nil path) ∙ ap (λ (rest : List ℕ). path ++ rest) (sym (ends is))) ∙ kept)
+        (ap (λ (view : List ℕ). is_part_kept plan view (further + polls) edge place) (sym (append-nil path) ∙ ap (λ (rest : List ℕ). path ++ rest) (sym (ends is))) ∙ kept)
     by_complete false is =
         ap (λ (complete : Bool). Wanted plan path polls edge place || not (is_superseded path (source_of plan edge) place (siblings_of plan edge) complete)) is
         ∙ kept_open laws plan path more further polls edge place kept
@@ -192,8 +192,8 @@ complete_whole machine seen runs complete =
     ]
 
 pub kept_is : LongerLaws → (machine : Machine) (seen polls more further edge place : ℕ) → Runs machine
-    → is_kept machine.job.plan (take (more + seen) machine.history.path) (further + polls) edge place ≡ true
-    → is_kept machine.job.plan (take seen machine.history.path) polls edge place ≡ true
+    → is_part_kept machine.job.plan (take (more + seen) machine.history.path) (further + polls) edge place ≡ true
+    → is_part_kept machine.job.plan (take seen machine.history.path) polls edge place ≡ true
 kept_is laws machine seen polls more further edge place runs kept =
     let path = machine.history.path in
     let rest = drop seen (take (more + seen) path) in
@@ -201,4 +201,4 @@ kept_is laws machine seen polls more further edge place runs kept =
     ap (λ (front : List ℕ). front ++ rest) (sym (take-take seen (more + seen) path (omega arith))) ∙ take-append-drop seen (take (more + seen) path) in
     kept_before laws machine.job.plan (take seen path) rest further polls edge place
     (λ complete. drop_all seen (take (more + seen) path) (omega (arith, complete_whole machine seen runs complete, length-take (more + seen) path)))
-    (ap (λ (view : List ℕ). is_kept machine.job.plan view (further + polls) edge place) parts ∙ kept)
+    (ap (λ (view : List ℕ). is_part_kept machine.job.plan view (further + polls) edge place) parts ∙ kept)

@@ -10,7 +10,7 @@ use Rattle.mit_plan.specs.Bound.{most_places}
 use Rattle.mit_plan.specs.Held.{History, Job, Part, decided, decisions_before, failed, follows, held, is_ok, ok, run, void}
 use Rattle.mit_plan.specs.Meant.{last_block}
 use Rattle.mit_plan.specs.Plans.{PlanOf, block_at, no_block}
-use Rattle.mit_plan.specs.Valid.{IsValid as IsValidPlan, JumpsEnd, is_branch, is_end, last_of}
+use Rattle.mit_plan.specs.Valid.{IsValid, JumpsEnd, is_branch, is_end, last_of}
 use Rattle.mit_plan.specs.declared.plan.PlanBlock.{PlanBlock}
 use Rattle.mit_machine.specs.Places.{Reports, front, known, leads_on}
 use Rattle.mit_machine.specs.Runs.{Runs, known_end}
@@ -33,7 +33,7 @@ branch_there plan block branch =
       | inr past ↦ let none : is_branch (block_at plan block).leave ≡ false = ap (λ (one : PlanBlock). is_branch one.leave) (get_or_past plan.blocks block no_block past) in absurd cc
     ]
 
-last_is : (plan : PlanOf) (block : ℕ) → IsValidPlan plan → is_branch (block_at plan block).leave ≡ true → IsLastOf plan block
+last_is : (plan : PlanOf) (block : ℕ) → IsValid plan → is_branch (block_at plan block).leave ≡ true → IsLastOf plan block
 last_is plan block valid branch =
     let some = (valid.branches block (branch_there plan block branch) branch).0.some in
     record { names = names plan block ((block_at plan block).count - 1) valid.ranges (omega (arith, some)); number = omega (arith, some) }
@@ -102,7 +102,7 @@ stops_at machine path place block (Branch on_true on_false) decides most same st
         absurd cc
 
 -- a valid plan has a block, since one is the end
-some_block : (plan : PlanOf) → IsValidPlan plan → 0 < length plan.blocks
+some_block : (plan : PlanOf) → IsValid plan → 0 < length plan.blocks
 some_block plan valid =
     let few = count_by-le-length (λ (block : PlanBlock). is_end block.leave) plan.blocks in
     omega (arith, few, valid.reached.one_end)

@@ -5,7 +5,7 @@ use Rattle.std.specs.List.{range_with_len}
 use Rattle.mit_plan.specs.Plans.{block_at}
 use Rattle.mit_plan.specs.Valid.{is_branch, last_of}
 use Rattle.mit_machine.specs.Offers.{released_in}
-use Rattle.mit_machine.specs.Places.{Reports, all_done, front, front_from, heard_by, is_done, known, known_from, leads_on, makes, ops_of, own_places, released}
+use Rattle.mit_machine.specs.Places.{Reports, all_done, front, front_from, heard_by, is_done, known, known_from, leads_on, makes, block_ops, own_places, released}
 use Rattle.mit_machine.specs.State.{Action, Machine, State, after, hear, learn, poll, raised_in, take_bag}
 use Rattle.mit_machine.proofs.Lists.{all_more, any_take}
 use Rattle.mit_machine.proofs.Raised.{raised_in_least}
@@ -78,7 +78,7 @@ front_more machine few many more place (suc less) (suc length) (block ∷ path) 
     let least = front_least machine many (place + 1) (take length path) in
     if_more (all_done machine few place block) (all_done machine many place block) place
     (front_from machine few (place + 1) (take less path)) (front_from machine many (place + 1) (take length path))
-    (all_more (λ op. is_done machine few op place) (λ op. is_done machine many op place) (ops_of machine.job.plan block) (λ op. done_more machine few many more op place))
+    (all_more (λ op. is_done machine few op place) (λ op. is_done machine many op place) (block_ops machine.job.plan block) (λ op. done_more machine few many more op place))
     (front_more machine few many more (place + 1) less length path (omega (arith, below))) (omega (arith, least))
 
 -- ---- what is released

@@ -5,7 +5,7 @@ use Rattle.std.specs.List.{All, Contains, flat_map, list_all, range_with_len}
 use Rattle.std.proofs.lemmas.Bool.{and_parts}
 use Rattle.std.proofs.lemmas.List.{length-drop, length-take}
 use Rattle.std.proofs.lemmas.List.Elements.{All-append, All-contains, All-filter, All-head, All-map, All-nil, All-tail, filter_passes}
-use Rattle.mit_machine.specs.Offers.{Bags, actions_of, all_come, can_poll, can_poll_at, edges_in, is_enabled, offered, ops_in, parts_of}
+use Rattle.mit_machine.specs.Offers.{Bags, actions_of, all_come, can_poll, can_poll_at, all_edges, is_enabled, offered, all_ops, all_parts}
 use Rattle.mit_machine.specs.Places.{makes, own_places}
 use Rattle.mit_machine.specs.State.{Action, Machine, State, hear, learn, poll, take_bag}
 use Rattle.mit_machine.proofs.Lists.{range_holds}
@@ -55,16 +55,16 @@ IsWithin machine (poll op part) = (op < length machine.job.plan.ops) × (part < 
 
 -- the actions of each kind
 abbrev pub learn_actions : Machine → List Action
-learn_actions machine = map learn (parts_of machine)
+learn_actions machine = map learn (all_parts machine)
 
 abbrev pub hear_actions : Machine → List Action
-hear_actions machine = flat_map (λ op. map (hear op) (parts_of machine)) (ops_in machine)
+hear_actions machine = flat_map (λ op. map (hear op) (all_parts machine)) (all_ops machine)
 
 abbrev pub take_actions : Machine → List Action
-take_actions machine = flat_map (λ edge. flat_map (λ from. map (take_bag edge from) (parts_of machine)) (parts_of machine)) (edges_in machine)
+take_actions machine = flat_map (λ edge. flat_map (λ from. map (take_bag edge from) (all_parts machine)) (all_parts machine)) (all_edges machine)
 
 abbrev pub poll_actions : Machine → List Action
-poll_actions machine = flat_map (λ op. map (poll op) (parts_of machine)) (ops_in machine)
+poll_actions machine = flat_map (λ op. map (poll op) (all_parts machine)) (all_ops machine)
 
 all_flat_map : {X : Type 0} (P : X → Type 0) (f : ℕ → List X) (xs : List ℕ) → All (λ y. All P (f y)) xs → All P (flat_map f xs)
 all_flat_map P f [] all = All-nil P
@@ -87,10 +87,10 @@ actions_within machine =
     (All-append P (learn_actions machine ++ hear_actions machine) (take_actions machine)
     (All-append P (learn_actions machine) (hear_actions machine)
     (all_made P learn parts (λ part within. within))
-    (all_made_of P (λ op. map (hear op) (parts_of machine)) ops (λ op is. all_made P (hear op) parts (λ part within. (is, within)))))
-    (all_made_of P (λ edge. flat_map (λ from. map (take_bag edge from) (parts_of machine)) (parts_of machine)) edges
-    (λ edge is. all_made_of P (λ from. map (take_bag edge from) (parts_of machine)) parts (λ from sender. all_made P (take_bag edge from) parts (λ to receiver. (is, sender, receiver))))))
-    (all_made_of P (λ op. map (poll op) (parts_of machine)) ops (λ op is. all_made P (poll op) parts (λ part within. (is, within))))
+    (all_made_of P (λ op. map (hear op) (all_parts machine)) ops (λ op is. all_made P (hear op) parts (λ part within. (is, within)))))
+    (all_made_of P (λ edge. flat_map (λ from. map (take_bag edge from) (all_parts machine)) (all_parts machine)) edges
+    (λ edge is. all_made_of P (λ from. map (take_bag edge from) (all_parts machine)) parts (λ from sender. all_made P (take_bag edge from) parts (λ to receiver. (is, sender, receiver))))))
+    (all_made_of P (λ op. map (poll op) (all_parts machine)) ops (λ op is. all_made P (poll op) parts (λ part within. (is, within))))
 
 pub offered_within : (machine : Machine) (state : State) (action : Action) → Contains (offered machine state) action → IsWithin machine action
 offered_within machine state action is =

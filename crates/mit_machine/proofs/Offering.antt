@@ -4,7 +4,7 @@ use Rattle.std.specs.Prelude.{Contains}
 use Rattle.std.proofs.lemmas.Bool.{lt-ltb}
 use Rattle.std.proofs.lemmas.List.{length-drop, length-take}
 use Rattle.std.proofs.lemmas.List.Elements.{Contains-append_left, Contains-append_right}
-use Rattle.mit_machine.specs.Offers.{actions_of, bags_under_way, blocks_under_way, edges_in, is_enabled, offered, ops_in, parts_of, released_in, reports_under_way, sent_in}
+use Rattle.mit_machine.specs.Offers.{actions_of, bags_under_way, blocks_under_way, all_edges, is_enabled, offered, all_ops, all_parts, released_in, reports_under_way, sent_in}
 use Rattle.mit_machine.specs.Places.{own_places}
 use Rattle.mit_machine.specs.State.{Action, Machine, State, hear, learn, poll, take_bag}
 use Rattle.mit_machine.proofs.Offered.{hear_actions, learn_actions, poll_actions, take_actions}
@@ -12,7 +12,7 @@ use Rattle.mit_machine.proofs.Lists.{in_filter, in_flat_map, in_map, range_has}
 
 -- ---- the actions that there are
 
-has_part : (machine : Machine) (part : ℕ) → part < machine.job.partitions → Contains (parts_of machine) part
+has_part : (machine : Machine) (part : ℕ) → part < machine.job.partitions → Contains (all_parts machine) part
 has_part machine part some = range_has 0 machine.job.partitions part (omega arith) (omega (arith, some))
 
 -- each kind is among them
@@ -34,28 +34,28 @@ fourth_kind : (machine : Machine) (action : Action) → Contains (poll_actions m
 fourth_kind machine action has = Contains-append_right (learn_actions machine ++ hear_actions machine ++ take_actions machine) (poll_actions machine) action has
 
 has_learn : (machine : Machine) (part : ℕ) → part < machine.job.partitions → Contains (actions_of machine) (learn part)
-has_learn machine part some = first_kind machine (learn part) (in_map learn part (parts_of machine) (has_part machine part some))
+has_learn machine part some = first_kind machine (learn part) (in_map learn part (all_parts machine) (has_part machine part some))
 
 has_hear : (machine : Machine) (op part : ℕ) → op < length machine.job.plan.ops → part < machine.job.partitions → Contains (actions_of machine) (hear op part)
 has_hear machine op part there some =
     let at = range_has 0 (length machine.job.plan.ops) op (omega arith) (omega (arith, there)) in
     second_kind machine (hear op part)
-    (in_flat_map (λ op. map (hear op) (parts_of machine)) op (hear op part) (ops_in machine) at.0 at.1 at.2 (in_map (hear op) part (parts_of machine) (has_part machine part some)))
+    (in_flat_map (λ op. map (hear op) (all_parts machine)) op (hear op part) (all_ops machine) at.0 at.1 at.2 (in_map (hear op) part (all_parts machine) (has_part machine part some)))
 
 has_take : (machine : Machine) (edge from to : ℕ) → edge < length machine.job.plan.edges → from < machine.job.partitions → to < machine.job.partitions → Contains (actions_of machine) (take_bag edge from to)
 has_take machine edge from to there sender receiver =
     let at = range_has 0 (length machine.job.plan.edges) edge (omega arith) (omega (arith, there)) in
     let part = has_part machine from sender in
     third_kind machine (take_bag edge from to)
-    (in_flat_map (λ edge. flat_map (λ from. map (take_bag edge from) (parts_of machine)) (parts_of machine)) edge (take_bag edge from to) (edges_in machine) at.0 at.1 at.2
-    (in_flat_map (λ from. map (take_bag edge from) (parts_of machine)) from (take_bag edge from to) (parts_of machine) part.0 part.1 part.2
-    (in_map (take_bag edge from) to (parts_of machine) (has_part machine to receiver))))
+    (in_flat_map (λ edge. flat_map (λ from. map (take_bag edge from) (all_parts machine)) (all_parts machine)) edge (take_bag edge from to) (all_edges machine) at.0 at.1 at.2
+    (in_flat_map (λ from. map (take_bag edge from) (all_parts machine)) from (take_bag edge from to) (all_parts machine) part.0 part.1 part.2
+    (in_map (take_bag edge from) to (all_parts machine) (has_part machine to receiver))))
 
 has_poll : (machine : Machine) (op part : ℕ) → op < length machine.job.plan.ops → part < machine.job.partitions → Contains (actions_of machine) (poll op part)
 has_poll machine op part there some =
     let at = range_has 0 (length machine.job.plan.ops) op (omega arith) (omega (arith, there)) in
     fourth_kind machine (poll op part)
-    (in_flat_map (λ op. map (poll op) (parts_of machine)) op (poll op part) (ops_in machine) at.0 at.1 at.2 (in_map (poll op) part (parts_of machine) (has_part machine part some)))
+    (in_flat_map (λ op. map (poll op) (all_parts machine)) op (poll op part) (all_ops machine) at.0 at.1 at.2 (in_map (poll op) part (all_parts machine) (has_part machine part some)))
 
 offers : (machine : Machine) (state : State) (action : Action) → Contains (actions_of machine) action → is_enabled machine state action ≡ true → 0 < length (offered machine state)
 offers machine state action has enabled =

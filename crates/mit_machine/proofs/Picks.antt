@@ -6,7 +6,7 @@ use Rattle.std.proofs.lemmas.List.Elements.{Contains-get_or}
 use Rattle.std.proofs.lemmas.Option.{get_or_from_slice_get, slice_get_within}
 use Rattle.mit_plan.specs.Bound.{most_actions}
 use Rattle.mit_machine.specs.Offers.{offered}
-use Rattle.mit_machine.specs.Runs.{IsValid, Pick, Runs, after_picks, picked, picked_from, sum_over, total}
+use Rattle.mit_machine.specs.Runs.{IsValidState, Pick, Runs, after_picks, picked, picked_from, sum_over, total}
 use Rattle.mit_machine.specs.State.{Action, Machine, State, after, first_state}
 use Rattle.mit_machine.proofs.Counting.{offered_counts, over_most, total_most}
 use Rattle.mit_machine.proofs.Settling.{FateLaws}
@@ -37,21 +37,21 @@ picked_comes machine state next pick is = by_count (length (offered machine stat
 
 -- ---- valid states
 
-picks_valid : FateLaws → (machine : Machine) (picks : List Pick) (state last : State) → Runs machine → IsValid machine state → picked_from machine state picks ≡ Some last → IsValid machine last
+picks_valid : FateLaws → (machine : Machine) (picks : List Pick) (state last : State) → Runs machine → IsValidState machine state → picked_from machine state picks ≡ Some last → IsValidState machine last
 unfolding picked_from
 picks_valid laws machine [] state last runs valid is =
     let same : state ≡ last = cc in
-    subst (IsValid machine) same valid
+    subst (IsValidState machine) same valid
 picks_valid laws machine (pick ∷ later) state last runs valid is = by_next (picks_valid laws machine later) (picked machine state pick) refl is
   where
-    by_next : ((next end : State) → Runs machine → IsValid machine next → picked_from machine next later ≡ Some end → IsValid machine end) → (found : Option State)
-        → picked machine state pick ≡ found → option_and_then (λ next. picked_from machine next later) found ≡ Some last → IsValid machine last
+    by_next : ((next end : State) → Runs machine → IsValidState machine next → picked_from machine next later ≡ Some end → IsValidState machine end) → (found : Option State)
+        → picked machine state pick ≡ found → option_and_then (λ next. picked_from machine next later) found ≡ Some last → IsValidState machine last
     by_next rest None there made = absurd cc
     by_next rest (Some next) there made =
         let comes = picked_comes machine state next pick there in
-        rest next last runs (subst (IsValid machine) comes.leads (offered_valid laws machine state comes.action runs valid comes.is_offered)) made
+        rest next last runs (subst (IsValidState machine) comes.leads (offered_valid laws machine state comes.action runs valid comes.is_offered)) made
 
-pub after_picks_valid : FateLaws → (machine : Machine) (picks : List Pick) (state : State) → Runs machine → after_picks machine picks ≡ Some state → IsValid machine state
+pub after_picks_valid : FateLaws → (machine : Machine) (picks : List Pick) (state : State) → Runs machine → after_picks machine picks ≡ Some state → IsValidState machine state
 after_picks_valid laws machine picks state runs is = picks_valid laws machine picks first_state state runs (first_valid machine) is
 
 -- ---- how many picks
@@ -83,6 +83,6 @@ first_total machine =
           (λ edge. omega (arith, over_most 0 0 parts (λ from. sum_over (range_with_len 0 parts) (λ to. 0)) (λ from. none))),
     )
 
-pub picks_most : (machine : Machine) (picks : List Pick) (state : State) → Runs machine → IsValid machine state → after_picks machine picks ≡ Some state
+pub picks_most : (machine : Machine) (picks : List Pick) (state : State) → Runs machine → IsValidState machine state → after_picks machine picks ≡ Some state
     → length picks ≤ most_actions machine.job.plan machine.job.decisions machine.job.partitions
 picks_most machine picks state runs valid is = omega (arith, picks_count machine picks first_state state is, first_total machine, total_most machine state runs valid)

@@ -17,9 +17,9 @@ use Rattle.mit_plan.specs.Meant.{fault_at, last_block, pair}
 use Rattle.mit_plan.specs.Paths.{IsPath}
 use Rattle.mit_plan.specs.Plans.{edge_at, op_at}
 use Rattle.mit_machine.specs.Channels.{fate_of, is_send, is_target, made_places}
-use Rattle.mit_machine.specs.Offers.{bags_of, can_poll_at, has_come, offered, parts_of, released_in, sent_in}
+use Rattle.mit_machine.specs.Offers.{bags_taken, can_poll_at, has_come, offered, all_parts, released_in, sent_in}
 use Rattle.mit_machine.specs.Places.{Reports, front, front_index, heard_by, is_done, known, makes, own_places}
-use Rattle.mit_machine.specs.Runs.{IsValid, Runs, ended, known_end}
+use Rattle.mit_machine.specs.Runs.{IsValidState, Runs, ended, known_end}
 use Rattle.mit_machine.specs.State.{Machine, State}
 use Rattle.mit_machine.proofs.Choosing.{PathLaws, chosen_sends}
 use Rattle.mit_machine.proofs.Faults.{FaultLaw, front_fault}
@@ -55,7 +55,7 @@ sends_to (ByKey columns) parts from to some low high =
 -- ---- what was sent
 
 -- a place that was heard ok was made
-made_there : (machine : Machine) (state : State) (op place part : ℕ) → IsValid machine state → part < machine.job.partitions → is_done machine (heard_by machine state.heard) op place ≡ true
+made_there : (machine : Machine) (state : State) (op place part : ℕ) → IsValidState machine state → part < machine.job.partitions → is_done machine (heard_by machine state.heard) op place ≡ true
     → list_any (λ other. eqb other place) (made_places machine op part (state.polls op part)) ≡ true
 made_there machine state op place part valid some done =
     let own = own_places machine.job.plan machine.history.path op in
@@ -66,7 +66,7 @@ made_there machine state op place part valid some done =
     (any_at (λ other. eqb other place) (state.polls op part) one.0 place own (omega (arith, one.1, polled)) one.2 (eq-eqb place place refl))
 
 -- and where its fate is to be sent it was sent
-sent_there : (machine : Machine) (state : State) (edge from to place : ℕ) → IsValid machine state → from < machine.job.partitions → is_target machine edge from to ≡ true
+sent_there : (machine : Machine) (state : State) (edge from to place : ℕ) → IsValidState machine state → from < machine.job.partitions → is_target machine edge from to ≡ true
     → fate_of machine.job.plan (take (state.seen from) machine.history.path) edge place ≡ Send
     → is_done machine (heard_by machine state.heard) (edge_at machine.job.plan edge).from place ≡ true → list_any (λ other. eqb other place) (sent_in machine state edge from to) ≡ true
 sent_there machine state edge from to place valid some target sends done =
@@ -82,7 +82,7 @@ sent_there machine state edge from to place valid some target sends done =
 record Unheard (machine : Machine) (state : State) (place index part : ℕ) : Type 0 where
   runs : Runs machine
   is_path : IsPath machine.job.plan machine.history.path
-  valid : IsValid machine state
+  valid : IsValidState machine state
   front : IsFront machine (heard_by machine state.heard) place index
   released : place < released_in machine state
   within : part < machine.job.partitions
@@ -134,7 +134,7 @@ missing_bag : PathLaws → (machine : Machine) (state : State) (place index part
     → chosen machine.job.plan machine.history.path (op_of machine.job.plan machine.history.path place index) input place ≡ Some choice
     → (senders_of (edge_at machine.job.plan choice.edge).route part machine.job.partitions).0 ≤ from
     → from < (senders_of (edge_at machine.job.plan choice.edge).route part machine.job.partitions).0 + (senders_of (edge_at machine.job.plan choice.edge).route part machine.job.partitions).1
-    → bags_of machine state part choice.edge from choice.place ≡ false → 0 < length (offered machine state)
+    → bags_taken machine state part choice.edge from choice.place ≡ false → 0 < length (offered machine state)
 missing_bag laws machine state place index part input choice from waits is low high missing =
     let plan = machine.job.plan in
     let op = op_of plan machine.history.path place index in
@@ -154,11 +154,11 @@ missing_bag laws machine state place index part input choice from waits is low h
 -- so it is for an input whose bags have not all come
 missing_input : PathLaws → (machine : Machine) (state : State) (place index part input : ℕ) → Unheard machine state place index part
     → input < length (input_edges machine.job.plan (op_of machine.job.plan machine.history.path place index))
-    → has_come machine (bags_of machine state part) part (chosen machine.job.plan machine.history.path (op_of machine.job.plan machine.history.path place index) input place) ≡ false
+    → has_come machine (bags_taken machine state part) part (chosen machine.job.plan machine.history.path (op_of machine.job.plan machine.history.path place index) input place) ≡ false
     → 0 < length (offered machine state)
 missing_input laws machine state place index part input waits below missing =
     let choice = input_there machine (heard_by machine state.heard) place index input waits.runs.plan waits.is_path waits.front below in
-    let bags = bags_of machine state part in
+    let bags = bags_taken machine state part in
     let not_all : has_come machine bags part (Some choice.0) ≡ false = ap (has_come machine bags part) (sym choice.1) ∙ missing in
     let senders = senders_of (edge_at machine.job.plan choice.0.edge).route part machine.job.partitions in
     let one = range_found (λ from. bags choice.0.edge from choice.0.place) senders.0 senders.1 not_all in
@@ -175,7 +175,7 @@ poll_or_bag laws machine state place index part k waits there polled seen = by_t
     op = op_of machine.job.plan machine.history.path place index
 
     come : ℕ → Bool
-    come input = has_come machine (bags_of machine state part) part (chosen machine.job.plan machine.history.path op input place)
+    come input = has_come machine (bags_taken machine state part) part (chosen machine.job.plan machine.history.path op input place)
 
     good : list_all (λ earlier. makes machine op earlier part) (take (state.polls op part) (front_places machine place index)) ≡ true
     good = front_all (λ earlier. makes machine op earlier part) (state.polls op part) (front_places machine place index) (λ m earlier below is.
@@ -193,7 +193,7 @@ poll_or_bag laws machine state place index part k waits there polled seen = by_t
         let ready = and_from (nat_lt place (state.seen part) && list_all (λ earlier. makes machine op earlier part) (take (state.polls op part) (front_places machine place index)))
         (list_all come (input_numbers machine.job.plan op)) first all in
         offers_poll machine state op part name.below waits.within
-        (ap (can_poll_at machine (bags_of machine state part) op part (state.seen part) (state.polls op part)) next ∙ ready)
+        (ap (can_poll_at machine (bags_taken machine state part) op part (state.seen part) (state.polls op part)) next ∙ ready)
 
 -- something is offered where the front was not heard from a partition
 unheard_offers : PathLaws → (machine : Machine) (state : State) (place index part : ℕ) → Unheard machine state place index part → 0 < length (offered machine state)
@@ -231,11 +231,11 @@ no_fault None some none = cc
 no_fault (Some fault) some none = cc
 
 -- where there is a front
-front_offers : Laws → (machine : Machine) (state : State) → Runs machine → IsValid machine state → let reports = heard_by machine state.heard in front machine reports < known machine reports
-    → cond (list_all (reports (op_of machine.job.plan machine.history.path (front machine reports) (front_index machine reports)) (front machine reports)) (parts_of machine))
+front_offers : Laws → (machine : Machine) (state : State) → Runs machine → IsValidState machine state → let reports = heard_by machine state.heard in front machine reports < known machine reports
+    → cond (list_all (reports (op_of machine.job.plan machine.history.path (front machine reports) (front_index machine reports)) (front machine reports)) (all_parts machine))
     (option_map stopped (fault_at machine.job.plan machine.history (pair (front machine reports) (front_index machine reports)))) None ≡ None
     → 0 < length (offered machine state)
-front_offers laws machine state runs valid less going = by_heard (list_all (reports (op_of machine.job.plan machine.history.path place index) place) (parts_of machine)) refl going
+front_offers laws machine state runs valid less going = by_heard (list_all (reports (op_of machine.job.plan machine.history.path place index) place) (all_parts machine)) refl going
   where
     reports : Reports
     reports = heard_by machine state.heard
@@ -255,7 +255,7 @@ front_offers laws machine state runs valid less going = by_heard (list_all (repo
     explained : Explained machine.job machine.history
     explained = explained_is laws.explained machine runs
 
-    by_heard : (all : Bool) → list_all (reports (op_of machine.job.plan machine.history.path place index) place) (parts_of machine) ≡ all
+    by_heard : (all : Bool) → list_all (reports (op_of machine.job.plan machine.history.path place index) place) (all_parts machine) ≡ all
         → cond all (option_map stopped (fault_at machine.job.plan machine.history (pair place index))) None ≡ None → 0 < length (offered machine state)
     by_heard true heard none =
         absurd (no_fault (fault_at machine.job.plan machine.history (pair place index))
@@ -266,7 +266,7 @@ front_offers laws machine state runs valid less going = by_heard (list_all (repo
         unheard_offers laws.paths machine state place index one.0
         (record { runs = runs; is_path = is_path; valid = valid; front = is; released = released; within = omega (arith, one.2); unheard = one.3 })
 
-pub progress : Laws → (machine : Machine) (state : State) → Runs machine → IsValid machine state → ended machine state ≡ None → 0 < length (offered machine state)
+pub progress : Laws → (machine : Machine) (state : State) → Runs machine → IsValidState machine state → ended machine state ≡ None → 0 < length (offered machine state)
 progress laws machine state runs valid going = by_front (nat_lt (front machine reports) (known machine reports)) refl going
   where
     reports : Reports
@@ -274,7 +274,7 @@ progress laws machine state runs valid going = by_front (nat_lt (front machine r
 
     by_front : (there : Bool) → nat_lt (front machine reports) (known machine reports) ≡ there
         → cond there
-        (cond (list_all (reports (op_of machine.job.plan machine.history.path (front machine reports) (front_index machine reports)) (front machine reports)) (parts_of machine))
+        (cond (list_all (reports (op_of machine.job.plan machine.history.path (front machine reports) (front_index machine reports)) (front machine reports)) (all_parts machine))
         (option_map stopped (fault_at machine.job.plan machine.history (pair (front machine reports) (front_index machine reports)))) None)
         (let path = take (known machine reports) machine.history.path in known_end machine path (last_block machine.job.plan path) (last_block machine.job.plan path).leave) ≡ None
         → 0 < length (offered machine state)

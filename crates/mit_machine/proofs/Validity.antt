@@ -5,9 +5,9 @@ use Rattle.std.proofs.lemmas.List.{get_or-take, length-take}
 use Rattle.std.proofs.lemmas.List.Sums.{AllPass-from_list_all}
 use Rattle.std.proofs.lemmas.Option.{get_or_from_slice_get, slice_get_within}
 use Rattle.mit_plan.specs.Plans.{op_at}
-use Rattle.mit_machine.specs.Offers.{bags_of, is_enabled, offered, released_in, sent_in}
+use Rattle.mit_machine.specs.Offers.{bags_taken, is_enabled, offered, released_in, sent_in}
 use Rattle.mit_machine.specs.Places.{makes, own_places}
-use Rattle.mit_machine.specs.Runs.{IsPolled, IsValid, Runs}
+use Rattle.mit_machine.specs.Runs.{IsPolled, IsValidState, Runs}
 use Rattle.mit_machine.specs.State.{Action, Machine, State, after, first_state, hear, learn, poll, take_bag}
 use Rattle.mit_machine.proofs.Fed.{fed_after, sent_later}
 use Rattle.mit_machine.proofs.Lengthens.{lengthens_length, lengthens_take}
@@ -19,7 +19,7 @@ use Rattle.mit_machine.proofs.Settling.{FateLaws}
 
 -- ---- the first state
 
-pub first_valid : (machine : Machine) → IsValid machine first_state
+pub first_valid : (machine : Machine) → IsValidState machine first_state
 first_valid machine = record {
   seen = λ part. omega arith;
   polled = λ op part. record { within = omega arith; stood = λ count place less is. absurd (omega (arith, less)) };
@@ -43,7 +43,7 @@ polled_seen machine op part seen polls was = record {
   stood = was.stood;
 }
 
-valid_learn : FateLaws → (machine : Machine) (state : State) (part : ℕ) → Runs machine → IsValid machine state → is_enabled machine state (learn part) ≡ true → IsValid machine (after (learn part) state)
+valid_learn : FateLaws → (machine : Machine) (state : State) (part : ℕ) → Runs machine → IsValidState machine state → is_enabled machine state (learn part) ≡ true → IsValidState machine (after (learn part) state)
 valid_learn laws machine state part runs valid enabled =
     let less = has_left_of_first (state.seen part) (released_in machine state) machine.history.path enabled in
     record {
@@ -63,7 +63,7 @@ valid_learn laws machine state part runs valid enabled =
 
 -- ---- a report is heard
 
-valid_hear : FateLaws → (machine : Machine) (state : State) (op part : ℕ) → Runs machine → IsValid machine state → is_enabled machine state (hear op part) ≡ true → IsValid machine (after (hear op part) state)
+valid_hear : FateLaws → (machine : Machine) (state : State) (op part : ℕ) → Runs machine → IsValidState machine state → is_enabled machine state (hear op part) ≡ true → IsValidState machine (after (hear op part) state)
 valid_hear laws machine state op part runs valid enabled =
     let less = has_left_of_first (state.heard op part) (state.polls op part) (own_places machine.job.plan machine.history.path op) enabled in
     record {
@@ -77,7 +77,7 @@ valid_hear laws machine state op part runs valid enabled =
 
 -- ---- a bag is taken
 
-valid_take : FateLaws → (machine : Machine) (state : State) (edge from to : ℕ) → Runs machine → IsValid machine state → is_enabled machine state (take_bag edge from to) ≡ true → IsValid machine (after (take_bag edge from to) state)
+valid_take : FateLaws → (machine : Machine) (state : State) (edge from to : ℕ) → Runs machine → IsValidState machine state → is_enabled machine state (take_bag edge from to) ≡ true → IsValidState machine (after (take_bag edge from to) state)
 valid_take laws machine state edge from to runs valid enabled =
     let less = has_left (state.taken edge from to) (sent_in machine state edge from to) enabled in
     record {
@@ -106,9 +106,9 @@ polled_more machine op part seen polls at =
           (AllPass-from_list_all (λ earlier. makes machine op earlier part) (take polls own) at.stood count place (omega (arith, below, within, length-take polls own)));
     }
 
-valid_poll : FateLaws → (machine : Machine) (state : State) (op part : ℕ) → Runs machine → IsValid machine state → is_enabled machine state (poll op part) ≡ true → IsValid machine (after (poll op part) state)
+valid_poll : FateLaws → (machine : Machine) (state : State) (op part : ℕ) → Runs machine → IsValidState machine state → is_enabled machine state (poll op part) ≡ true → IsValidState machine (after (poll op part) state)
 valid_poll laws machine state op part runs valid enabled =
-    let at = polls_at machine (bags_of machine state part) op part (state.seen part) (state.polls op part) enabled in
+    let at = polls_at machine (bags_taken machine state part) op part (state.seen part) (state.polls op part) enabled in
     record {
       seen = valid.seen;
       polled = λ other from. raised_in_cases op part other from state.polls (λ n. IsPolled machine other from (state.seen from) n) (valid.polled other from)
@@ -123,10 +123,10 @@ valid_poll laws machine state op part runs valid enabled =
           );
     }
 
-pub offered_valid : FateLaws → (machine : Machine) (state : State) (action : Action) → Runs machine → IsValid machine state → Contains (offered machine state) action → IsValid machine (after action state)
+pub offered_valid : FateLaws → (machine : Machine) (state : State) (action : Action) → Runs machine → IsValidState machine state → Contains (offered machine state) action → IsValidState machine (after action state)
 offered_valid laws machine state action runs valid is = by_action action (offered_enabled machine state action is)
   where
-    by_action : (one : Action) → is_enabled machine state one ≡ true → IsValid machine (after one state)
+    by_action : (one : Action) → is_enabled machine state one ≡ true → IsValidState machine (after one state)
     by_action (learn part) enabled = valid_learn laws machine state part runs valid enabled
     by_action (hear op part) enabled = valid_hear laws machine state op part runs valid enabled
     by_action (take_bag edge from to) enabled = valid_take laws machine state edge from to runs valid enabled

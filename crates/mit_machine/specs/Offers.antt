@@ -5,7 +5,7 @@ use Rattle.mit_plan.specs.Chosen.{Choice, chosen, input_numbers}
 use Rattle.mit_plan.specs.Held.{senders}
 use Rattle.mit_plan.specs.Plans.{edge_at}
 use Rattle.mit_machine.specs.Channels.{data_channel, path_channel, report_channel, sent_places}
-use Rattle.mit_machine.specs.Places.{heard_by, is_among, makes, own_places, released}
+use Rattle.mit_machine.specs.Places.{heard_by, is_counted, makes, own_places, released}
 use Rattle.mit_machine.specs.State.{Action, Machine, State, hear, learn, poll, take_bag}
 
 -- which bags came to a partition: of an edge, from a sender, of a place
@@ -40,8 +40,8 @@ can_poll machine bags op part seen polls =
 abbrev pub sent_in : Machine → State → ℕ → ℕ → ℕ → List ℕ
 sent_in machine state edge from to = sent_places machine edge from to (state.seen from) (state.polls (edge_at machine.job.plan edge).from from)
 
-abbrev pub bags_of : Machine → State → ℕ → Bags
-bags_of machine state to edge from place = is_among (state.taken edge from to) (sent_in machine state edge from to) place
+abbrev pub bags_taken : Machine → State → ℕ → Bags
+bags_taken machine state to edge from place = is_counted (state.taken edge from to) (sent_in machine state edge from to) place
 
 -- how many blocks are released in a state
 abbrev pub released_in : Machine → State → ℕ
@@ -63,26 +63,26 @@ abbrev pub is_enabled : Machine → State → Action → Bool
 is_enabled machine state (learn part) = nat_lt 0 (length (blocks_under_way machine state part))
 is_enabled machine state (hear op part) = nat_lt 0 (length (reports_under_way machine state op part))
 is_enabled machine state (take_bag edge from to) = nat_lt 0 (length (bags_under_way machine state edge from to))
-is_enabled machine state (poll op part) = can_poll machine (bags_of machine state part) op part (state.seen part) (state.polls op part)
+is_enabled machine state (poll op part) = can_poll machine (bags_taken machine state part) op part (state.seen part) (state.polls op part)
 
 -- ---- the offer
 
-abbrev pub parts_of : Machine → List ℕ
-parts_of machine = range_with_len 0 machine.job.partitions
+abbrev pub all_parts : Machine → List ℕ
+all_parts machine = range_with_len 0 machine.job.partitions
 
-abbrev pub ops_in : Machine → List ℕ
-ops_in machine = range_with_len 0 (length machine.job.plan.ops)
+abbrev pub all_ops : Machine → List ℕ
+all_ops machine = range_with_len 0 (length machine.job.plan.ops)
 
-abbrev pub edges_in : Machine → List ℕ
-edges_in machine = range_with_len 0 (length machine.job.plan.edges)
+abbrev pub all_edges : Machine → List ℕ
+all_edges machine = range_with_len 0 (length machine.job.plan.edges)
 
 -- all actions, in the order of their numbers
 abbrev pub actions_of : Machine → List Action
 actions_of machine =
-    map learn (parts_of machine)
-    ++ flat_map (λ op. map (hear op) (parts_of machine)) (ops_in machine)
-    ++ flat_map (λ edge. flat_map (λ from. map (take_bag edge from) (parts_of machine)) (parts_of machine)) (edges_in machine)
-    ++ flat_map (λ op. map (poll op) (parts_of machine)) (ops_in machine)
+    map learn (all_parts machine)
+    ++ flat_map (λ op. map (hear op) (all_parts machine)) (all_ops machine)
+    ++ flat_map (λ edge. flat_map (λ from. map (take_bag edge from) (all_parts machine)) (all_parts machine)) (all_edges machine)
+    ++ flat_map (λ op. map (poll op) (all_parts machine)) (all_ops machine)
 
 -- the number of an action
 abbrev pub number_of : Machine → Action → ℕ

@@ -7,27 +7,27 @@ use Rattle.mit_plan.specs.Valid.{is_branch, last_of}
 use Rattle.mit_machine.specs.State.{Machine}
 
 -- the places of a block, in rising order
-abbrev pub places_of : List ℕ → ℕ → List ℕ
-places_of path block = filter (λ place. slice_index path place == block) (range_with_len 0 (length path))
+abbrev pub block_places : List ℕ → ℕ → List ℕ
+block_places path block = filter (λ place. slice_index path place == block) (range_with_len 0 (length path))
 
 -- those of an operator's block
 abbrev pub own_places : PlanOf → List ℕ → ℕ → List ℕ
-own_places plan path op = places_of path (op_at plan op).block
+own_places plan path op = block_places path (op_at plan op).block
 
 -- its part at a place in a partition is ok
 abbrev pub makes : Machine → ℕ → ℕ → ℕ → Bool
 makes machine op place part = is_ok (held machine.history place (op_at machine.job.plan op).index part)
 
 -- whether something came of the first so many of these places
-abbrev pub is_among : ℕ → List ℕ → ℕ → Bool
-is_among count places place = list_any (λ other. other == place) (take count places)
+abbrev pub is_counted : ℕ → List ℕ → ℕ → Bool
+is_counted count places place = list_any (λ other. other == place) (take count places)
 
 -- which reports came: of an operator, of a place, from a partition
 abbrev pub Reports : Type 0
 Reports = ℕ → ℕ → ℕ → Bool
 
 abbrev pub heard_by : Machine → (ℕ → ℕ → ℕ) → Reports
-heard_by machine heard op place part = is_among (heard op part) (own_places machine.job.plan machine.history.path op) place
+heard_by machine heard op place part = is_counted (heard op part) (own_places machine.job.plan machine.history.path op) place
 
 -- ---- the known path
 
@@ -57,11 +57,11 @@ open_from machine reports place index [] = index
 open_from machine reports place index (op ∷ later) = if is_done machine reports op place then open_from machine reports place (index + 1) later else index
 
 -- the numbers of a block's operators
-abbrev pub ops_of : PlanOf → ℕ → List ℕ
-ops_of plan block = range_with_len (block_at plan block).first (block_at plan block).count
+abbrev pub block_ops : PlanOf → ℕ → List ℕ
+block_ops plan block = range_with_len (block_at plan block).first (block_at plan block).count
 
 abbrev pub all_done : Machine → Reports → ℕ → ℕ → Bool
-all_done machine reports place block = list_all (λ op. is_done machine reports op place) (ops_of machine.job.plan block)
+all_done machine reports place block = list_all (λ op. is_done machine reports op place) (block_ops machine.job.plan block)
 
 -- the first place, from this one on, at which an operator isn't done
 unfoldable pub front_from : Machine → Reports → ℕ → List ℕ → ℕ
@@ -74,7 +74,7 @@ front machine reports = front_from machine reports 0 (take (known machine report
 
 abbrev pub front_index : Machine → Reports → ℕ
 front_index machine reports =
-    open_from machine reports (front machine reports) 0 (ops_of machine.job.plan (slice_index machine.history.path (front machine reports)))
+    open_from machine reports (front machine reports) 0 (block_ops machine.job.plan (slice_index machine.history.path (front machine reports)))
 
 -- how many blocks are released: so many places from the front on, as far as the path is known
 abbrev pub released : Machine → Reports → ℕ

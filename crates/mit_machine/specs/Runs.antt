@@ -8,9 +8,9 @@ use Rattle.mit_ops.specs.declared.leave.Leave.TheVariants.{Jump, Branch, End}
 use Rattle.mit_plan.specs.Held.{decisions_before, history_of, op_of}
 use Rattle.mit_plan.specs.Meant.{fault_at, last_block, pair, writes_of}
 use Rattle.mit_plan.specs.Plans.{op_at}
-use Rattle.mit_plan.specs.Valid.{IsValid as IsValidPlan, last_of}
+use Rattle.mit_plan.specs.Valid.{IsValid, last_of}
 use Rattle.mit_plan.specs.declared.plan.PlanBlock.{PlanBlock}
-use Rattle.mit_machine.specs.Offers.{all_come, bags_of, edges_in, offered, ops_in, parts_of, released_in, sent_in}
+use Rattle.mit_machine.specs.Offers.{all_come, bags_taken, all_edges, offered, all_ops, all_parts, released_in, sent_in}
 use Rattle.mit_machine.specs.Places.{Reports, front, front_index, heard_by, known, makes, own_places}
 use Rattle.mit_machine.specs.State.{Machine, State, after, first_state}
 
@@ -18,7 +18,7 @@ use Rattle.mit_machine.specs.State.{Machine, State, after, first_state}
 
 -- a valid plan runs in partitions, over what it holds, with a window of one place or more
 pub record Runs (machine : Machine) : Type 0 where
-  pub plan : IsValidPlan machine.job.plan
+  pub plan : IsValid machine.job.plan
   pub history : machine.history ≡ history_of machine.job
   pub some : 0 < machine.job.partitions
   pub opens : 0 < machine.window
@@ -61,7 +61,7 @@ known_end machine path block (Branch on_true on_false) =
 abbrev pub ended_by : Machine → Reports → ℕ → ℕ → Option Ending
 ended_by machine reports known front =
     if nat_lt front known
-    then if list_all (reports (op_of machine.job.plan machine.history.path front (front_index machine reports)) front) (parts_of machine)
+    then if list_all (reports (op_of machine.job.plan machine.history.path front (front_index machine reports)) front) (all_parts machine)
     then option_map stopped (fault_at machine.job.plan machine.history (pair front (front_index machine reports)))
     else None
     else let path = take known machine.history.path in
@@ -81,11 +81,11 @@ pub record IsPolled (machine : Machine) (op part seen polls : ℕ) : Type 0 wher
 
 -- nothing is seen beyond what is released, polled beyond the view or before its bags came, heard that was not polled, or taken that was not
 -- sent
-pub record IsValid (machine : Machine) (state : State) : Type 0 where
+pub record IsValidState (machine : Machine) (state : State) : Type 0 where
   pub seen : (part : ℕ) → state.seen part ≤ released_in machine state
   pub polled : (op part : ℕ) → IsPolled machine op part (state.seen part) (state.polls op part)
   pub fed : (op part count place : ℕ) → count < state.polls op part → slice_get (own_places machine.job.plan machine.history.path op) count ≡ Some place
-      → all_come machine (bags_of machine state part) op part place ≡ true
+      → all_come machine (bags_taken machine state part) op part place ≡ true
   pub heard : (op part : ℕ) → state.heard op part ≤ state.polls op part
   pub taken : (edge from to : ℕ) → state.taken edge from to ≤ length (sent_in machine state edge from to)
 
@@ -97,7 +97,7 @@ sum_over numbers count = sum (map count numbers)
 -- the actions so far: the sum of all counters
 abbrev pub total : Machine → State → ℕ
 total machine state =
-    sum_over (parts_of machine) state.seen
-    + sum_over (ops_in machine) (λ op. sum_over (parts_of machine) (state.polls op))
-    + sum_over (ops_in machine) (λ op. sum_over (parts_of machine) (state.heard op))
-    + sum_over (edges_in machine) (λ edge. sum_over (parts_of machine) (λ from. sum_over (parts_of machine) (state.taken edge from)))
+    sum_over (all_parts machine) state.seen
+    + sum_over (all_ops machine) (λ op. sum_over (all_parts machine) (state.polls op))
+    + sum_over (all_ops machine) (λ op. sum_over (all_parts machine) (state.heard op))
+    + sum_over (all_edges machine) (λ edge. sum_over (all_parts machine) (λ from. sum_over (all_parts machine) (state.taken edge from)))

@@ -6,11 +6,11 @@ ghost use Rattle.mit_plan.specs.Chosen.{Choice, chosen, input_numbers};
 ghost use Rattle.mit_plan.specs.Held.{senders};
 ghost use Rattle.mit_plan.specs.Meant.{meant};
 ghost use Rattle.mit_plan.specs.Plans.{edge_at};
-ghost use Rattle.mit_machine.specs.Kept.{is_kept};
+ghost use Rattle.mit_machine.specs.Kept.{is_part_kept};
 ghost use Rattle.mit_machine.specs.Moves.{Moves, is_hear, is_learn, is_take};
-ghost use Rattle.mit_machine.specs.Offers.{bags_of, bags_under_way, blocks_under_way, offered, released_in, reports_under_way};
+ghost use Rattle.mit_machine.specs.Offers.{bags_taken, bags_under_way, blocks_under_way, offered, released_in, reports_under_way};
 ghost use Rattle.mit_machine.specs.Places.{Reports, front, known, own_places, released};
-ghost use Rattle.mit_machine.specs.Runs.{IsValid, Pick, Runs, after_picks, ended, total};
+ghost use Rattle.mit_machine.specs.Runs.{IsValidState, Pick, Runs, after_picks, ended, total};
 ghost use Rattle.mit_machine.specs.State.{Action, Machine, State, after, first_state};
 
 use mit_path::laws::{
@@ -22,23 +22,23 @@ use mit_plan::laws::{longer_path_law, parts_law, path_stops_law, sums_law};
 /// released never falls, and reaches no further than the window. In a valid state an operator was polled at a place only
 /// after the bag that each input chooses there had come from every sender.
 pub fn states_law()
-    ensures first { (machine : Machine) → IsValid machine first_state }
+    ensures first { (machine : Machine) → IsValidState machine first_state }
     ensures picked { (machine : Machine) (picks : List Pick) (state : State) → Runs machine
-        → after_picks machine picks ≡ Some state → IsValid machine state }
-    ensures after { (machine : Machine) (state : State) (action : Action) → Runs machine → IsValid machine state
-        → Contains (offered machine state) action → IsValid machine (after action state) }
+        → after_picks machine picks ≡ Some state → IsValidState machine state }
+    ensures after { (machine : Machine) (state : State) (action : Action) → Runs machine → IsValidState machine state
+        → Contains (offered machine state) action → IsValidState machine (after action state) }
     ensures released { (machine : Machine) (state : State) (action : Action)
         → released_in machine state ≤ released_in machine (after action state) }
     ensures window { (machine : Machine) (reports : Reports)
         → (released machine reports ≤ known machine reports)
         × (released machine reports ≤ front machine reports + machine.window) }
     ensures fed { (machine : Machine) (state : State) (op part count place input from : ℕ)
-        (choice : Choice) → IsValid machine state → count < state.polls op part
+        (choice : Choice) → IsValidState machine state → count < state.polls op part
         → slice_get (own_places machine.job.plan machine.history.path op) count ≡ Some place
         → Contains (input_numbers machine.job.plan op) input
         → chosen machine.job.plan machine.history.path op input place ≡ Some choice
         → Contains (senders machine.job (edge_at machine.job.plan choice.edge) part) from
-        → bags_of machine state part choice.edge from choice.place ≡ true }
+        → bags_taken machine state part choice.edge from choice.place ≡ true }
 {
     longer_view_law();
     undecided_fate_law();
@@ -63,7 +63,7 @@ pub fn channels_law()
 
 /// As long as a run has not ended, something is offered.
 pub fn progress_law()
-    ensures { (machine : Machine) (state : State) → Runs machine → IsValid machine state
+    ensures { (machine : Machine) (state : State) → Runs machine → IsValidState machine state
         → ended machine state ≡ None → 0 < length (offered machine state) }
 {
     longer_view_law();
@@ -79,7 +79,7 @@ pub fn progress_law()
 pub fn bound_law()
     ensures one { (machine : Machine) (state : State) (action : Action) → Contains (offered machine state) action
         → total machine (after action state) ≡ total machine state + 1 }
-    ensures most { (machine : Machine) (state : State) → Runs machine → IsValid machine state
+    ensures most { (machine : Machine) (state : State) → Runs machine → IsValidState machine state
         → total machine state ≤ most_actions machine.job.plan machine.job.decisions machine.job.partitions }
     ensures picks { (machine : Machine) (picks : List Pick) (state : State) → Runs machine
         → after_picks machine picks ≡ Some state
@@ -100,8 +100,8 @@ pub fn ending_law()
 /// What is kept in a longer view, or after more polls, was kept before.
 pub fn kept_law()
     ensures { (machine : Machine) (seen polls more further edge place : ℕ) → Runs machine
-        → is_kept machine.job.plan (take (more + seen) machine.history.path) (further + polls) edge place ≡ true
-        → is_kept machine.job.plan (take seen machine.history.path) polls edge place ≡ true }
+        → is_part_kept machine.job.plan (take (more + seen) machine.history.path) (further + polls) edge place ≡ true
+        → is_part_kept machine.job.plan (take seen machine.history.path) polls edge place ≡ true }
 {
     longer_view_law();
     last_place_law();
