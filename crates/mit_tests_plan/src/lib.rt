@@ -16,4 +16,6 @@ mod valid;
 #[cfg(test)]
 mod whole;
 #[cfg(test)]
+mod worked;
+#[cfg(test)]
 mod worth;
