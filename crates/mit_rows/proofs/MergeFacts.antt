@@ -13,7 +13,7 @@ use Rattle.std.proofs.lemmas.List.Sorted.{ranks_by, sum_by-IsPermutation}
 use Rattle.std.proofs.lemmas.List.Sums.{sum_by-append}
 use Rattle.mit_rows.specs.Order.{row_cmp}
 use Rattle.mit_rows.specs.Bags.{RowOf, BagOf, all_rows, bag_of, bag_sum, IsBag}
-use Rattle.mit_rows.specs.Merging.{EndsBelow, IsSideOf, TakesGreatest, last_of}
+use Rattle.mit_rows.specs.Merging.{EndsBelow, IsSideOf, TakesGreatest, last_row}
 use Rattle.mit_rows.proofs.ValueOrder.{row_cmp_total}
 use Rattle.mit_rows.proofs.Rising.{one, tally, Rising}
 use Rattle.mit_rows.proofs.BagOrder.{all_rows-push, bag_from_rising, rising-bag_of, tally-bag_of}
@@ -22,17 +22,17 @@ use Rattle.mit_rows.proofs.BagOrder.{all_rows-push, bag_from_rising, rising-bag_
 abbrev IsUnder : RowOf → RowOf → Type 0
 IsUnder row other = is_lt (row_cmp row other) ≡ false
 
-last_later : (first next : RowOf) (rows : List RowOf) → last_of (first ∷ next ∷ rows) ≡ last_of (next ∷ rows)
+last_later : (first next : RowOf) (rows : List RowOf) → last_row (first ∷ next ∷ rows) ≡ last_row (next ∷ rows)
 last_later first next rows =
     let e : length (first ∷ next ∷ rows) - 1 ≡ suc (length (next ∷ rows) - 1) = omega arith in
     ap (slice_get (first ∷ next ∷ rows)) e
 
-last_push : (rows : List RowOf) (row : RowOf) → last_of (rows ++ row ∷ []) ≡ Some row
+last_push : (rows : List RowOf) (row : RowOf) → last_row (rows ++ row ∷ []) ≡ Some row
 last_push [] row = refl
 last_push (first ∷ []) row = refl
 last_push (first ∷ next ∷ rows) row = last_later first next (rows ++ row ∷ []) ∙ last_push (next ∷ rows) row
 
-last_none : (rows : List RowOf) → last_of rows ≡ None → rows ≡ []
+last_none : (rows : List RowOf) → last_row rows ≡ None → rows ≡ []
 last_none [] none = refl
 last_none (first ∷ []) none = cc
 last_none (first ∷ next ∷ rows) none = let no = last_none (next ∷ rows) (sym (last_later first next rows) ∙ none) in cc
@@ -149,31 +149,31 @@ no_row (x ∷ xs) ys row e = cc
 pub took_left : (left right new : List RowOf) (result : Option RowOf) → IsSideOf left right true → left ≡ new ++ option_to_list result
     → (IsSome result ↔ (0 < length left)) → TakesGreatest left right new right result
 took_left left right new None side is there =
-    absurd (subst (λ o. MatchOption o ⊥ (EndsBelow right)) (ap last_of (none left (λ h. there.1 h))) side)
+    absurd (subst (λ o. MatchOption o ⊥ (EndsBelow right)) (ap last_row (none left (λ h. there.1 h))) side)
   where
     none : (rows : List RowOf) → (0 < length rows → false ≡ true) → rows ≡ []
     none [] h = refl
     none (row ∷ rows) h = let no = h (omega arith) in cc
 took_left left right new (Some row) side is there =
-    inl (is, refl, subst (λ o. MatchOption o ⊥ (EndsBelow right)) (ap last_of is ∙ last_push new row) side)
+    inl (is, refl, subst (λ o. MatchOption o ⊥ (EndsBelow right)) (ap last_row is ∙ last_push new row) side)
 
 pub took_right : (left right new : List RowOf) (result : Option RowOf) → IsSideOf left right false → right ≡ new ++ option_to_list result
     → (IsSome result ↔ (0 < length right)) → TakesGreatest left right left new result
 took_right left right new None side is there =
-    let empty = none right (λ h. there.1 h) in (subst (λ o. MatchOption o (left ≡ []) (EndsBelow left)) (ap last_of empty) side, empty)
+    let empty = none right (λ h. there.1 h) in (subst (λ o. MatchOption o (left ≡ []) (EndsBelow left)) (ap last_row empty) side, empty)
   where
     none : (rows : List RowOf) → (0 < length rows → false ≡ true) → rows ≡ []
     none [] h = refl
     none (row ∷ rows) h = let no = h (omega arith) in cc
 took_right left right new (Some row) side is there =
-    inr (is, refl, subst (λ o. MatchOption o (left ≡ []) (EndsBelow left)) (ap last_of is ∙ last_push new row) side)
+    inr (is, refl, subst (λ o. MatchOption o (left ≡ []) (EndsBelow left)) (ap last_row is ∙ last_push new row) side)
 
 not_lower : (r s : Ordering) → s ≡ ordering_reverse r → r ≡ Less → is_lt s ≡ false
 not_lower Less s e h = ap is_lt e
 not_lower Equal s e h = cc
 not_lower Greater s e h = cc
 
-pub side_of : (left right : List RowOf) (a b : RowOf) (o : Ordering) → o ≡ row_cmp a b → last_of left ≡ Some a → last_of right ≡ Some b → IsSideOf left right (is_ge o)
+pub side_of : (left right : List RowOf) (a b : RowOf) (o : Ordering) → o ≡ row_cmp a b → last_row left ≡ Some a → last_row right ≡ Some b → IsSideOf left right (is_ge o)
 side_of left right a b Less is l r =
     let fact : is_lt (row_cmp b a) ≡ false = not_lower (row_cmp a b) (row_cmp b a) (row_cmp_total.antisymm b a) (sym is) in
     subst (λ o. MatchOption o (left ≡ []) (EndsBelow left)) (sym r) (subst (λ o. MatchOption o (Unit {0}) (IsUnder b)) (sym l) fact)

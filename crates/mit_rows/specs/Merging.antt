@@ -4,17 +4,17 @@ use Rattle.std.specs.Ordering.{is_lt}
 use Rattle.mit_rows.specs.Bags.{RowOf}
 use Rattle.mit_rows.specs.Order.{row_cmp}
 
-abbrev pub last_of : List RowOf → Option RowOf
-last_of rows = slice_get rows (length rows - 1)
+abbrev pub last_row : List RowOf → Option RowOf
+last_row rows = slice_get rows (length rows - 1)
 
 -- the last of these rows, where there is one, is not above this row
 abbrev pub EndsBelow : List RowOf → RowOf → Type 0
-EndsBelow rows row = IfSome (last_of rows) (λ last. is_lt (row_cmp row last) ≡ false)
+EndsBelow rows row = IfSome (last_row rows) (λ last. is_lt (row_cmp row last) ≡ false)
 
 -- which list has the greatest row: the left one, or else the right one, which is empty only where both are
 abbrev pub IsSideOf : List RowOf → List RowOf → Bool → Type 0
-IsSideOf left right true = MatchOption (last_of left) ⊥ (EndsBelow right)
-IsSideOf left right false = MatchOption (last_of right) (left ≡ []) (EndsBelow left)
+IsSideOf left right true = MatchOption (last_row left) ⊥ (EndsBelow right)
+IsSideOf left right false = MatchOption (last_row right) (left ≡ []) (EndsBelow left)
 
 -- this row was the last of the one list, and the other ends below it and stays
 abbrev pub TakesLast : List RowOf → List RowOf → List RowOf → List RowOf → RowOf → Type 0

@@ -83,7 +83,7 @@ impl Bag {
     {
         let mut rows = Vec::with_capacity(alloc, self.rows.len())?;
         for row in &self.rows {
-            rows.push(row.copy(alloc)?)?;
+            rows.push(row.copy()?)?;
         }
         Ok(Bag { rows })
     }

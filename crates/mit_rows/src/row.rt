@@ -1,17 +1,18 @@
-ghost use Rattle.std.specs.Prelude.{◌≡◌, ◌≤◌, ◌∷◌, [], IfOk, IfSome, Some, length, vec_len};
+ghost use Rattle.std.specs.Prelude.{◌≡◌, ◌≤◌, ◌<◌, ◌+◌, ◌++◌, ◌∷◌, [], IfOk, OnOk, length, vec_len};
 ghost use Rattle.mit_rows.specs.Order.{row_cmp, value_cmp};
-ghost use Rattle.mit_rows.specs.Stored.{IsFrontOf, leader};
+ghost use Rattle.mit_rows.specs.Stored.{Leads};
 
 use crate::value::Value;
 use std::alloc::{AllocError, Global};
 use std::cmp::Ordering;
 use std::marker::Model;
+use std::rc::Rc;
 use std::slice;
 
 /// The most columns of a row.
 pub const MAX_COLUMNS: usize = 16;
 
-/// A row of at most `MAX_COLUMNS` values, which contracts see as their list.
+/// A row of at most `MAX_COLUMNS` values, which contracts see as their list. Copies share their values.
 #[derive(Debug, Drop)]
 pub struct Row {
     stored: Stored,
@@ -19,14 +20,38 @@ pub struct Row {
 
 // Few reads tell two rows apart: those of their first integers, or of the fronts of their first texts, which stand in the
 // rows themselves.
-#[derive(Debug, Drop)]
+#[derive(Clone, Copy, Debug)]
+enum Lead {
+    // the first value is this integer
+    Number(i64),
+    // the first value is a text with this front
+    Front(u64),
+    Other,
+}
+
+#[derive(Debug)]
 enum Stored {
+    Nothing,
     One(Value),
-    // values that this integer leads
-    Led(i64, Vec<Value>),
-    // values that a text with this front leads
-    Fronted(u64, Vec<Value>),
-    Many(Vec<Value>),
+    Two(Lead, Rc<[Value; 2]>),
+    Three(Lead, Rc<[Value; 3]>),
+    Four(Lead, Rc<[Value; 4]>),
+    Many(Lead, Rc<Vec<Value>>),
+}
+
+// One call for all, so that no caller's proof has to tell them apart.
+impl Drop for Stored {
+    #[inline]
+    fn drop(self) {
+        match self {
+            Stored::Nothing => {}
+            Stored::One(value) => drop(value),
+            Stored::Two(_, values) => drop(values),
+            Stored::Three(_, values) => drop(values),
+            Stored::Four(_, values) => drop(values),
+            Stored::Many(_, values) => drop(values),
+        }
+    }
 }
 
 impl Model for Row {
@@ -44,6 +69,15 @@ impl Model for Row {
 }
 
 impl Row {
+    /// A row of no values.
+    pub fn empty() -> Row
+        ensures { result ≡ [] }
+    {
+        Row {
+            stored: Stored::Nothing,
+        }
+    }
+
     /// A row of this one value.
     pub fn from_value(value: Value) -> Row
         ensures { result ≡ value ∷ [] }
@@ -53,22 +87,91 @@ impl Row {
         }
     }
 
-    /// A row of these values.
-    pub fn from_values(mut values: Vec<Value>) -> Row
-        requires { vec_len values ≤ MAX_COLUMNS }
-        ensures { result ≡ values.items }
+    /// A row of these two values.
+    pub fn from_pair(alloc: Global, first: Value, second: Value) -> Result<Row, AllocError>
+        ensures { IfOk result (λ row. row ≡ first ∷ second ∷ []) }
     {
-        if values.len() == 1
-            && let Some(only) = values.pop()
-        {
-            return Row::from_value(only);
+        let lead = lead_of(slice::from_ref(&first));
+        Ok(Row {
+            stored: Stored::Two(lead, Rc::new(alloc, [first, second])?),
+        })
+    }
+
+    // A row of these three values.
+    fn from_three(alloc: Global, values: [Value; 3]) -> Result<Row, AllocError>
+        ensures { IfOk result (λ row. row ≡ values) }
+    {
+        let lead = lead_of(&values);
+        Ok(Row {
+            stored: Stored::Three(lead, Rc::new(alloc, values)?),
+        })
+    }
+
+    // A row of these four values.
+    fn from_four(alloc: Global, values: [Value; 4]) -> Result<Row, AllocError>
+        ensures { IfOk result (λ row. row ≡ values) }
+    {
+        let lead = lead_of(&values);
+        Ok(Row {
+            stored: Stored::Four(lead, Rc::new(alloc, values)?),
+        })
+    }
+
+    /// A row of these values.
+    pub fn from_values(mut values: Vec<Value>) -> Result<Row, AllocError>
+        requires { vec_len values ≤ MAX_COLUMNS }
+        ensures { IfOk result (λ row. row ≡ values.items) }
+    {
+        match values.len() {
+            1 => Ok(Row::from_value(last(&mut values))),
+            2 => {
+                let second = last(&mut values);
+                Row::from_pair(*values.allocator(), last(&mut values), second)
+            }
+            3 => {
+                let third = last(&mut values);
+                let second = last(&mut values);
+                Row::from_three(*values.allocator(), [last(&mut values), second, third])
+            }
+            4 => {
+                let fourth = last(&mut values);
+                let third = last(&mut values);
+                let second = last(&mut values);
+                Row::from_four(
+                    *values.allocator(),
+                    [last(&mut values), second, third, fourth],
+                )
+            }
+            _ => {
+                let alloc = *values.allocator();
+                let lead = lead_of(&values);
+                Ok(Row {
+                    stored: Stored::Many(lead, Rc::new(alloc, values)?),
+                })
+            }
         }
-        let stored = match values.first() {
-            Some(Value::Int(number)) => Stored::Led(*number, values),
-            Some(Value::Text(text)) => Stored::Fronted(text.front(), values),
-            _ => Stored::Many(values),
-        };
-        Row { stored }
+    }
+
+    /// The row of the values of one row and then of another.
+    pub fn joined(alloc: Global, left: &Row, right: &Row) -> Result<Row, AllocError>
+        requires { length left.now + length right.now ≤ MAX_COLUMNS }
+        ensures { IfOk result (λ row. row ≡ left.now ++ right.now) }
+    {
+        match (left.values(), right.values()) {
+            ([a], [b]) => Row::from_pair(alloc, a.copy()?, b.copy()?),
+            ([a], [b, c]) | ([a, b], [c]) => {
+                Row::from_three(alloc, [a.copy()?, b.copy()?, c.copy()?])
+            }
+            ([a, b], [c, d]) => {
+                Row::from_four(alloc, [a.copy()?, b.copy()?, c.copy()?, d.copy()?])
+            }
+            (left, right) => {
+                let mut values = Vec::with_capacity(alloc, left.len() + right.len())?;
+                add_copies(left, &mut values)?;
+                add_copies(right, &mut values)?;
+                Row::from_values(values)
+            }
+        }
     }
 
     /// Its values, column by column.
@@ -77,46 +180,76 @@ impl Row {
         ensures few { length self.now ≤ MAX_COLUMNS }
     {
         match &self.stored {
+            Stored::Nothing => &[],
             Stored::One(value) => slice::from_ref(value),
-            Stored::Led(_, values) | Stored::Fronted(_, values) | Stored::Many(values) => values,
+            Stored::Two(_, values) => values.as_ref(),
+            Stored::Three(_, values) => values.as_ref(),
+            Stored::Four(_, values) => values.as_ref(),
+            Stored::Many(_, values) => values.as_ref(),
         }
     }
 
-    // Its first integer, where that stands in the row itself.
+    // What leads its values, where that stands in the row itself.
     #[inline]
-    fn number(&self) -> Option<i64>
-        ensures { IfSome result (λ number. leader self.now ≡ Some number) }
+    fn lead(&self) -> Lead
+        ensures { Leads result self.now }
     {
         match &self.stored {
-            Stored::One(Value::Int(number)) | Stored::Led(number, _) => Some(*number),
-            _ => None,
-        }
-    }
-
-    // The front of its first text, where that stands in the row itself.
-    #[inline]
-    fn front(&self) -> Option<u64>
-        ensures { IfSome result (λ front. IsFrontOf front self.now) }
-    {
-        match &self.stored {
-            Stored::Fronted(front, _) => Some(*front),
-            _ => None,
+            Stored::One(Value::Int(number)) => Lead::Number(*number),
+            Stored::Nothing | Stored::One(_) => Lead::Other,
+            Stored::Two(lead, _)
+            | Stored::Three(lead, _)
+            | Stored::Four(lead, _)
+            | Stored::Many(lead, _) => *lead,
         }
     }
 
     /// An equal row.
-    pub fn copy(&self, alloc: Global) -> Result<Row, AllocError>
+    pub fn copy(&self) -> Result<Row, AllocError>
         ensures { IfOk result (λ other. other ≡ self.now) }
     {
-        let source = match &self.stored {
-            Stored::One(value) => return Ok(Row::from_value(value.copy(alloc)?)),
-            Stored::Led(_, values) | Stored::Fronted(_, values) | Stored::Many(values) => values,
+        let stored = match &self.stored {
+            Stored::Nothing => Stored::Nothing,
+            Stored::One(value) => Stored::One(value.copy()?),
+            Stored::Two(lead, values) => Stored::Two(*lead, values.clone()?),
+            Stored::Three(lead, values) => Stored::Three(*lead, values.clone()?),
+            Stored::Four(lead, values) => Stored::Four(*lead, values.clone()?),
+            Stored::Many(lead, values) => Stored::Many(*lead, values.clone()?),
         };
-        let mut values = Vec::with_capacity(alloc, source.len())?;
-        for value in source {
-            values.push(value.copy(alloc)?)?;
-        }
-        Ok(Row::from_values(values))
+        Ok(Row { stored })
+    }
+}
+
+// The last value, taken out.
+fn last(values: &mut Vec<Value>) -> Value
+    requires { 0 < vec_len values.old }
+    ensures items { values.old.items ≡ values.new.items ++ result ∷ [] }
+    ensures length { vec_len values.old ≡ vec_len values.new + 1 }
+{
+    match values.pop() {
+        Some(value) => value,
+        None => unreachable!(),
+    }
+}
+
+// Adds copies of these values.
+fn add_copies(values: &[Value], onto: &mut Vec<Value>) -> Result<(), AllocError>
+    ensures { OnOk result (onto.new.items ≡ onto.old.items ++ values.now) }
+{
+    for value in values {
+        onto.push(value.copy()?)?;
+    }
+    Ok(())
+}
+
+// What leads these values.
+fn lead_of(values: &[Value]) -> Lead
+    ensures { Leads result values.now }
+{
+    match values.first() {
+        Some(Value::Int(number)) => Lead::Number(*number),
+        Some(Value::Text(text)) => Lead::Front(text.front()),
+        _ => Lead::Other,
     }
 }
 
@@ -125,17 +258,11 @@ impl Row {
 pub fn cmp_rows(a: &Row, b: &Row) -> Ordering
     ensures { result ≡ row_cmp a.now b.now }
 {
-    if let (Some(x), Some(y)) = (a.number(), b.number())
-        && x != y
-    {
-        return x.cmp(&y);
+    match (a.lead(), b.lead()) {
+        (Lead::Number(x), Lead::Number(y)) if x != y => x.cmp(&y),
+        (Lead::Front(x), Lead::Front(y)) if x != y => x.cmp(&y),
+        _ => cmp_all_values(a.values(), b.values()),
     }
-    if let (Some(x), Some(y)) = (a.front(), b.front())
-        && x != y
-    {
-        return x.cmp(&y);
-    }
-    cmp_all_values(a.values(), b.values())
 }
 
 // Most rows differ in what stands in themselves, so this stays out of the loops of a sort.
@@ -169,7 +296,7 @@ pub fn cmp_values(a: &Value, b: &Value) -> Ordering
 {
     match (a, b) {
         (Value::Int(x), Value::Int(y)) => x.cmp(y),
-        (Value::Text(x), Value::Text(y)) => x.as_str().cmp(y.as_str()),
+        (Value::Text(x), Value::Text(y)) => x.bytes().cmp(y.bytes()),
         (Value::Bool(x), Value::Bool(y)) => x.cmp(y),
         (Value::Int(_), _) | (Value::Text(_), Value::Bool(_)) => Ordering::Less,
         (_, Value::Int(_)) | (Value::Bool(_), Value::Text(_)) => Ordering::Greater,

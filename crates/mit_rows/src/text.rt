@@ -1,11 +1,15 @@
 ghost use Rattle.std.specs.Prelude.{◌≡◌, ◌≤◌, ◌<◌, ◌↔◌, IfOk, IsErrOf, get_or, length};
-ghost use Rattle.mit_rows.specs.Stored.{IsFront};
+ghost use Rattle.mit_rows.specs.Stored.{HeldRight, IsFront, held_bytes};
 
 use std::alloc::{AllocError, Global};
 use std::marker::Model;
+use std::rc::Rc;
 
 /// The most bytes of a text value.
 pub const MAX_TEXT: usize = 65_536;
+
+// The most bytes of a text that stands in the value itself.
+const MAX_SHORT: usize = 14;
 
 /// Why no text was made.
 #[derive(Clone, Copy, Debug, PartialEq, Eq)]
@@ -19,18 +23,40 @@ pub enum TextRefused {
 /// UTF-8 text of at most `MAX_TEXT` bytes, which contracts see as its bytes.
 #[derive(Debug, Drop)]
 pub struct Text {
-    text: String,
+    held: Held,
+}
+
+// A short text takes no memory of its own, and copies of a longer one share theirs.
+#[derive(Debug)]
+enum Held {
+    // so many of these bytes
+    Short(u8, [u8; MAX_SHORT]),
+    Long(Rc<String>),
+}
+
+// One call for both, so that no caller's proof has to tell them apart.
+impl Drop for Held {
+    #[inline]
+    fn drop(self) {
+        match self {
+            Held::Short(_, _) => {}
+            Held::Long(text) => drop(text),
+        }
+    }
 }
 
 impl Model for Text {
-    ghost use Rattle.std.specs.Prelude.{List, ℕ, ◌≤◌, length, string_bytes};
+    ghost use Rattle.std.specs.Prelude.{List, ℕ, ◌≤◌, length};
+    ghost use Rattle.std.specs.Str.{IsUtf8};
     ghost use Rattle.mit_rows.specs.declared.text.TheConstants.{MAX_TEXT};
 
     ghost Value = { List ℕ };
 
-    ghost view = { λ t. string_bytes t.text };
+    ghost use Rattle.mit_rows.specs.Stored.{HeldRight, held_bytes};
 
-    ghost invariant = { λ t. length (string_bytes t.text) ≤ MAX_TEXT };
+    ghost view = { λ t. held_bytes t.held };
+
+    ghost invariant = { λ t. (length (held_bytes t.held) ≤ MAX_TEXT) × HeldRight t.held };
 }
 
 impl Text {
@@ -42,8 +68,8 @@ impl Text {
         if text.len() > MAX_TEXT {
             return Err(TextRefused::TooLong);
         }
-        match String::from_str(alloc, text) {
-            Ok(text) => Ok(Text { text }),
+        match keep(alloc, text) {
+            Ok(held) => Ok(Text { held }),
             Err(AllocError) => Err(TextRefused::NoMemory),
         }
     }
@@ -53,14 +79,22 @@ impl Text {
         ensures value { result.now ≡ self.now }
         ensures short { length self.now ≤ MAX_TEXT }
     {
-        self.text.as_bytes()
+        match &self.held {
+            Held::Short(length, bytes) => &bytes[..usize::from(*length)],
+            Held::Long(text) => text.as_bytes(),
+        }
     }
 
     /// It as text.
     pub fn as_str(&self) -> &str
         ensures value { result.now ≡ self.now }
     {
-        self.text.as_str()
+        match &self.held {
+            Held::Short(length, bytes) => unsafe {
+                str::from_utf8_unchecked(&bytes[..usize::from(*length)])
+            },
+            Held::Long(text) => text.as_str(),
+        }
     }
 
     // Its first eight bytes as a number, the first one the highest, with zeros after a shorter text.
@@ -77,14 +111,30 @@ impl Text {
         high * 4_294_967_296 + low
     }
 
-    /// An equal text.
-    pub fn copy(&self, alloc: Global) -> Result<Text, AllocError>
+    /// An equal text, which shares what memory it takes.
+    pub fn copy(&self) -> Result<Text, AllocError>
         ensures { IfOk result (λ other. other ≡ self.now) }
     {
-        Ok(Text {
-            text: String::from_str(alloc, self.text.as_str())?,
-        })
+        let held = match &self.held {
+            Held::Short(length, bytes) => Held::Short(*length, *bytes),
+            Held::Long(text) => Held::Long(text.clone()?),
+        };
+        Ok(Text { held })
     }
+}
+
+// A text as it is held.
+fn keep(alloc: Global, text: &str) -> Result<Held, AllocError>
+    ensures bytes { IfOk result (λ held. held_bytes held ≡ text.now) }
+    ensures right { IfOk result HeldRight }
+{
+    let source = text.as_bytes();
+    if source.len() > MAX_SHORT {
+        return Ok(Held::Long(Rc::new(alloc, String::from_str(alloc, text)?)?));
+    }
+    let mut bytes = [0; MAX_SHORT];
+    bytes[..source.len()].copy_from_slice(source);
+    Ok(Held::Short(source.len() as u8, bytes))
 }
 
 // The byte at this place, or 0 after the end.

@@ -1,7 +1,7 @@
 ghost use Rattle.std.specs.Prelude.{◌≡◌, IfOk};
 
 use crate::text::Text;
-use std::alloc::{AllocError, Global};
+use std::alloc::AllocError;
 
 /// The type of a column.
 #[derive(Clone, Copy, Debug, PartialEq, Eq)]
@@ -27,12 +27,12 @@ pub enum Value {
 
 impl Value {
     /// An equal value.
-    pub fn copy(&self, alloc: Global) -> Result<Value, AllocError>
+    pub fn copy(&self) -> Result<Value, AllocError>
         ensures { IfOk result (λ other. other ≡ self.now) }
     {
         match self {
             Value::Int(number) => Ok(Value::Int(*number)),
-            Value::Text(text) => Ok(Value::Text(text.copy(alloc)?)),
+            Value::Text(text) => Ok(Value::Text(text.copy()?)),
             Value::Bool(truth) => Ok(Value::Bool(*truth)),
         }
     }
