@@ -5,7 +5,7 @@ use Rattle.std.specs.FinMap as fin
 use Rattle.mit_rows.specs.Bags.{BagOf}
 use Rattle.mit_world.specs.Files.{FileMap}
 use Rattle.mit_shelf.specs.Printed.{Write, bag_text, published, published_onto}
-use Rattle.mit_shelf.specs.Staged.{Put, is_below, with_put, writes_of}
+use Rattle.mit_shelf.specs.Staged.{Put, is_below, with_put, writes_put}
 use Rattle.mit_shelf.specs.StoredPuts.{IsFirstAbove, Rises, RisesBy, put_of}
 use Rattle.mit_shelf.proofs.PutOrder.{BeginsAbove, all_lower, place_is, rises_front, rises_with}
 use Rattle.std.specs.List.{All}
@@ -84,7 +84,7 @@ published_push files (first ∷ writes) write = published_push (fin.insert files
 
 -- the files of the puts so far
 abbrev pub files_of : List Stored → FileMap
-files_of stored = published (writes_of (map put_of stored))
+files_of stored = published (writes_put (map put_of stored))
 
 pub files_none : fin.empty ≡ files_of []
 unfolding published_onto
@@ -101,14 +101,14 @@ files_more stored place item files after name text h is before put same printed 
     ∙ ap (λ (m : FileMap). fin.insert m name text) before
     ∙ ap (λ (n : List ℕ). fin.insert (files_of (take place stored)) n text) same
     ∙ ap (fin.insert (files_of (take place stored)) (put_of item).1.0) printed
-    ∙ sym (published_push fin.empty (writes_of (map put_of (take place stored))) (record { name = (put_of item).1.0; bag = (put_of item).1.1 }))
+    ∙ sym (published_push fin.empty (writes_put (map put_of (take place stored))) (record { name = (put_of item).1.0; bag = (put_of item).1.1 }))
     ∙ ap published
     (sym (map-append (λ (p : Put). record { name = p.1.0; bag = p.1.1 }) (map put_of (take place stored)) (put_of item ∷ [])))
-    ∙ ap (λ (l : List Put). published (writes_of l))
+    ∙ ap (λ (l : List Put). published (writes_put l))
     (sym (map-append put_of (take place stored) (item ∷ []))
     ∙ ap (λ (l : List Stored). map put_of l) (ap (λ (x : Stored). take place stored ++ x ∷ []) is ∙ sym (take_more stored place item h)))
 
 pub files_all : (stored : List Stored) (place : ℕ) (old : List Put) (files : FileMap) → length stored ≤ place → map put_of stored ≡ old
-    → files ≡ files_of (take place stored) → files ≡ published (writes_of old)
+    → files ≡ files_of (take place stored) → files ≡ published (writes_put old)
 files_all stored place old files h view before =
-    before ∙ ap files_of (take_all place stored h) ∙ ap (λ (l : List Put). published (writes_of l)) view
+    before ∙ ap files_of (take_all place stored h) ∙ ap (λ (l : List Put). published (writes_put l)) view

@@ -22,5 +22,5 @@ abbrev pub IsFree : List Put → ℕ × ℕ → Type 0
 IsFree puts pair = list_any (λ put. (put.0.0 == pair.0) && (put.0.1 == pair.1)) puts ≡ false
 
 -- what was written, in that order
-abbrev pub writes_of : List Put → List Write
-writes_of puts = map (λ put. record { name = put.1.0; bag = put.1.1 }) puts
+abbrev pub writes_put : List Put → List Write
+writes_put puts = map (λ put. record { name = put.1.0; bag = put.1.1 }) puts

@@ -103,5 +103,5 @@ pub(crate) fn row_of_record(
         };
         values.push(value)?;
     }
-    Ok(Some(Row::from_values(values)))
+    Ok(Some(Row::from_values(values)?))
 }

@@ -80,11 +80,11 @@ impl Name {
     }
 
     /// An equal name.
-    pub fn copy(&self, alloc: Global) -> Result<Name, AllocError>
+    pub fn copy(&self) -> Result<Name, AllocError>
         ensures { IfOk result (λ other. other ≡ self.now) }
     {
         Ok(Name {
-            text: self.text.copy(alloc)?,
+            text: self.text.copy()?,
         })
     }
 }

@@ -1,7 +1,7 @@
 //! The shelf of what was read of a folder, which asks for each name once.
 ghost use Rattle.std.specs.Prelude.{◌≡◌, ◌≢◌, ◌≤◌, ◌↔◌, [], Some, None, true, false, IfErr, IfOk, IfSome, IsSome, OnErr, option_map};
 ghost use Rattle.mit_world.specs.Files.{FileMap};
-ghost use Rattle.mit_world.specs.Outside.{Rose};
+ghost use Rattle.mit_world.specs.Outside.{AsksAtMost, Rose};
 ghost use Rattle.mit_shelf.specs.Names.{is_legal};
 ghost use Rattle.mit_shelf.specs.Stops.{IfFolder};
 ghost use Rattle.mit_shelf.specs.Stored.{KeepsLast};
@@ -61,7 +61,8 @@ impl Shelf {
         ensures fetched { FetchesAs self.old self.new name.now (F.files folder.old) result }
         ensures bad_name { (result ≡ Err (Stop.Fault FetchFault.BadName)) ↔ (is_legal name.now ≡ false) }
 
-        // Each name is asked for once.
+        // Only this name is asked for, and each name once.
+        ensures asks { AsksAtMost name.now (F.asked folder.old) (F.asked folder.new) }
         ensures asks_once { IsSome (kept self.old name.now) → folder.new ≡ folder.old }
         ensures illegal { is_legal name.now ≡ false → folder.new ≡ folder.old }
 
@@ -90,6 +91,7 @@ impl Shelf {
         requires legal { is_legal name.now ≡ true }
         ensures fetched { FetchesAs self.old self.new name.now (F.files folder.old) result }
         ensures legal { result ≢ Err (Stop.Fault FetchFault.BadName) }
+        ensures asks { AsksAtMost name.now (F.asked folder.old) (F.asked folder.new) }
         ensures failed { IfErr result (λ stop. IfFolder stop (Rose (F.faults folder.old) (F.faults folder.new))) }
         ensures told { F.files folder.new ≡ F.files folder.old }
         ensures count { F.faults folder.old ≤ F.faults folder.new }

@@ -1,7 +1,7 @@
 //! The writes of a run until they are its files.
 ghost use Rattle.std.specs.Prelude.{◌≡◌, [], IfOk, OnErr, OnOk};
 ghost use Rattle.mit_shelf.specs.Printed.{published};
-ghost use Rattle.mit_shelf.specs.Staged.{IsFree, is_below, with_put, writes_of};
+ghost use Rattle.mit_shelf.specs.Staged.{IsFree, is_below, with_put, writes_put};
 ghost use Rattle.mit_shelf.specs.StoredPuts.{IsFirstAbove, RisesBy};
 
 use crate::printed::print_rows;
@@ -69,7 +69,7 @@ impl Staged {
 
     /// The files of the run: each name with the text of the bag that was written last under it.
     pub fn finish(&self) -> Result<Files, AllocError>
-        ensures { IfOk result (λ files. files ≡ published (writes_of self.now)) }
+        ensures { IfOk result (λ files. files ≡ published (writes_put self.now)) }
     {
         let mut files = Files::new(self.alloc);
         for put in &self.puts {

@@ -13,6 +13,7 @@ failures fails (suc calls) = if list_any (λ k. k == suc calls) fails then failu
 
 pub record FolderState : Type 0 where
   pub files : FileMap
+  pub asked : List (List ℕ)
   pub fails : List ℕ
   pub calls : ℕ
 
@@ -40,8 +41,10 @@ file_map_code = map.code (coded_list coded_ℕ) (coded_list coded_ℕ)
 -- a state is stored as the pairs of its fields
 abbrev pub folder_code : Coded FolderState
 folder_code =
-    code_by (FileMap × (List ℕ × ℕ)) (coded× file_map_code (coded× (coded_list coded_ℕ) coded_ℕ))
-    (λ s. (s.files, (s.fails, s.calls))) (λ p. record { files = p.0; fails = p.1.0; calls = p.1.1 }) (λ _. refl)
+    code_by ((FileMap × List (List ℕ)) × (List ℕ × ℕ)) (coded× (coded× file_map_code (coded_list (coded_list coded_ℕ))) (coded× (coded_list coded_ℕ) coded_ℕ))
+    (λ s. ((s.files, s.asked), (s.fails, s.calls)))
+    (λ p. record { files = p.0.0; asked = p.0.1; fails = p.1.0; calls = p.1.1 })
+    (λ _. refl)
 
 abbrev pub outbox_code : Coded OutboxState
 outbox_code =

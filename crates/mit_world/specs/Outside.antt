@@ -1,5 +1,5 @@
 -- What folder, outbox and console mean: what they hold, where they tell it, and how their faults are counted.
-use Rattle.std.specs.Prelude.{◌≡◌, ◌≤◌, ◌+◌, ◌-◌, ◌^◌, ◌++◌, ⊤, ℕ, List, Bool, true, false, Option, Some, None, IfSome, min}
+use Rattle.std.specs.Prelude.{◌≡◌, ◌⊎◌, ◌≤◌, ◌+◌, ◌-◌, ◌^◌, ◌++◌, ⊤, ℕ, List, [], ◌∷◌, Bool, true, false, Option, Some, None, IfSome, option_map, min}
 use Rattle.std.specs.FinMap as map
 use Rattle.mit_world.specs.Files.{FileMap}
 use Rattle.mit_world.specs.declared.outside.OutsideStop.{OutsideStop}
@@ -18,6 +18,14 @@ IfFailed NoMemory fact = ⊤
 abbrev pub ReadsAs : Option FileMap → List ℕ → Bool → List ℕ → List ℕ → Type 0
 ReadsAs files name true old new = (bytes : List ℕ) × (new ≡ old ++ bytes) × IfSome files (λ told. map.get told name ≡ Some bytes)
 ReadsAs files name false old new = (new ≡ old) × IfSome files (λ told. map.get told name ≡ None)
+
+-- the names that were asked for with this one more, where they are told
+abbrev pub asks : List ℕ → Option (List (List ℕ)) → Option (List (List ℕ))
+asks name asked = option_map (λ names. names ++ name ∷ []) asked
+
+-- where the names are told, this one was asked for once at most, and no other
+abbrev pub AsksAtMost : List ℕ → Option (List (List ℕ)) → Option (List (List ℕ)) → Type 0
+AsksAtMost name before now = (now ≡ before) ⊎ (now ≡ asks name before)
 
 -- what an outbox holds: the staged files, and the published ones where there are any
 pub record Held : Type 0 where

@@ -1,5 +1,5 @@
-//! The folder, the outbox and the console of the machine. What they hold is not told. A call that fails says on standard
-//! error what could not be done and what the system answered.
+//! The folder, the outbox and the console of the machine. What they hold is not told, nor what the folder is asked for. A
+//! call that fails says on standard error what could not be done and what the system answered.
 ghost use Rattle.std.specs.Prelude.{◌≡◌, ◌↔◌, ◌≤◌, ◌+◌, ◌-◌, ◌^◌, min, false, None, IfOk};
 ghost use Rattle.std.specs.Io.{StartsWith};
 ghost use Rattle.std.specs.IoError.{error_kind};
@@ -48,6 +48,8 @@ impl<R> HostFolder<R> {
 
 impl<R: FileSystem + Eprint> Folder for HostFolder<R> {
     ghost files = { λ _. None };
+
+    ghost asked = { λ _. None };
 
     ghost faults = { λ s. s };
 

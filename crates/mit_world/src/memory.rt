@@ -1,42 +1,50 @@
 //! The three objects of the outside, kept in memory. Each counts its calls and fails exactly the
 //! calls whose numbers, from 1, are in a list. The count stands still at its type's end, and a call
-//! beyond it has no number.
-ghost use Rattle.std.specs.Prelude.{◌≡◌, ◌≤◌, ◌++◌, ◌↔◌, [], Some, None, option_map, IsTrue};
+//! beyond it has no number. The folder notes the names that it is asked for, also where it fails.
+ghost use Rattle.std.specs.Prelude.{◌≡◌, ◌≤◌, ◌++◌, ◌↔◌, [], ◌∷◌, Some, None, map, option_map, string_bytes, IsTrue};
 ghost use Rattle.std.specs.Prelude.{IfOk, IfErr, OnOk, OnErr, IsErrOf};
-ghost use Rattle.std.specs.FinMap as map;
-ghost use Rattle.mit_world.specs.Outside.{Continues, IfFailed, ReadsAs, Rose, publishes, stages};
+ghost use Rattle.std.specs.FinMap as fin;
+ghost use Rattle.mit_world.specs.Outside.{AsksAtMost, Continues, IfFailed, ReadsAs, Rose, publishes, stages};
 ghost use Rattle.mit_world.specs.Memory.{counted, failures, next_fails};
 
 use crate::files::Files;
 use crate::outside::{Console, Folder, Outbox, OutsideStop};
-use std::alloc::Global;
+use std::alloc::{AllocError, Global};
 use std::marker::Model;
 
 /// A folder in memory.
 #[derive(Drop)]
 pub struct MemFolder {
     files: Files,
+    asked: Vec<String>,
     fails: Vec<u64>,
     calls: u64,
 }
 
 impl Model for MemFolder {
+    ghost use Rattle.std.specs.Prelude.{map, string_bytes};
     ghost use Rattle.mit_world.specs.Memory.{FolderState, folder_code};
 
     ghost Value = { FolderState };
 
     ghost coded = { folder_code };
 
-    ghost view = { λ a. record { files = a.files; fails = a.fails.items; calls = a.calls } };
+    ghost view = { λ a. record {
+      files = a.files;
+      asked = map string_bytes a.asked.items;
+      fails = a.fails.items;
+      calls = a.calls;
+    } };
 }
 
 impl MemFolder {
     /// A folder of these files, which fails the calls of these numbers.
     pub fn new(files: Files, fails: Vec<u64>) -> MemFolder
-        ensures { result ≡ record { files = files; fails = fails.items; calls = 0 } }
+        ensures { result ≡ record { files = files; asked = []; fails = fails.items; calls = 0 } }
     {
         MemFolder {
             files,
+            asked: Vec::new(*fails.allocator()),
             fails,
             calls: 0,
         }
@@ -49,10 +57,29 @@ impl MemFolder {
     {
         self.calls
     }
+
+    /// The names of the files that it was asked for, in order. Where memory ran out for a name, it is not among them.
+    pub fn asked(&self) -> &[String]
+        ensures { map string_bytes result.now ≡ self.now.asked }
+    {
+        &self.asked
+    }
+
+    // Notes that it is asked for this name.
+    fn note(&mut self, name: &str) -> Result<(), AllocError>
+        ensures ok { OnOk result (self.new ≡ record self.old { asked = self.old.asked ++ name.now ∷ [] }) }
+        ensures err { OnErr result (self.new ≡ self.old) }
+    {
+        let name = String::from_str(*self.fails.allocator(), name)?;
+        self.asked.push(name)?;
+        Ok(())
+    }
 }
 
 impl Folder for MemFolder {
     ghost files = { λ s. Some s.files };
+
+    ghost asked = { λ s. Some s.asked };
 
     ghost faults = { λ s. failures s.fails s.calls };
 
@@ -63,13 +90,17 @@ impl Folder for MemFolder {
         ensures failed { IfErr result (λ stop. IfFailed stop (Rose
             (failures self.old.fails self.old.calls) (failures self.new.fails self.new.calls))) }
         ensures told { self.new.files ≡ self.old.files }
+        ensures asks { OnOk result (self.new.asked ≡ self.old.asked ++ name.now ∷ []) }
+        ensures asks_at_most { OnErr result (AsksAtMost name.now (Some self.old.asked) (Some self.new.asked)) }
         ensures count { failures self.old.fails self.old.calls ≤ failures self.new.fails self.new.calls }
-        ensures after { self.new ≡ record self.old { calls = counted self.old.calls } }
+        ensures after { self.new ≡ record self.old { asked = self.new.asked; calls = counted self.old.calls } }
         ensures fails { IsErrOf result OutsideStop.Failed ↔ IsTrue (next_fails self.old.fails self.old.calls) }
     {
+        let noted = self.note(name);
         if count_call(&self.fails, &mut self.calls) {
             return Err(OutsideStop::Failed);
         }
+        noted?;
         match self.files.get(name) {
             Some(bytes) => {
                 into.extend_from_slice(bytes)?;
@@ -107,7 +138,7 @@ impl MemOutbox {
     /// An outbox that holds nothing, which fails the calls of these numbers.
     pub fn new(alloc: Global, fails: Vec<u64>) -> MemOutbox
         ensures { result ≡ record {
-          held = record { staged = map.empty; published = None };
+          held = record { staged = fin.empty; published = None };
           fails = fails.items;
           calls = 0;
         } }

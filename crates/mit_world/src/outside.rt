@@ -1,7 +1,7 @@
 ghost use Rattle.std.specs.Prelude.{◌≡◌, ◌≤◌, ◌++◌, ℕ, List, Option, IfOk, IfErr, OnOk, OnErr, option_map};
 ghost use Rattle.mit_world.specs.Files.{FileMap};
 ghost use Rattle.mit_world.specs.declared.outside.OutsideStop.TheVariants.{NoMemory};
-ghost use Rattle.mit_world.specs.Outside.{Continues, Held, IfFailed, ReadsAs, Rose, publishes, stages};
+ghost use Rattle.mit_world.specs.Outside.{AsksAtMost, Continues, Held, IfFailed, ReadsAs, Rose, asks, publishes, stages};
 
 use std::alloc::AllocError;
 
@@ -27,6 +27,9 @@ pub trait Folder {
     /// The files that it tells, where it tells them. A read never changes them.
     ghost files: { Self → Option FileMap };
 
+    /// The names of the files that it was asked for, in order, where it tells them.
+    ghost asked: { Self → Option (List (List ℕ)) };
+
     /// How many calls have failed. It never falls.
     ghost faults: { Self → ℕ };
 
@@ -36,6 +39,8 @@ pub trait Folder {
         ensures err { OnErr result (into.new.items ≡ into.old.items) }
         ensures failed { IfErr result (λ stop. IfFailed stop (Rose (faults self.old) (faults self.new))) }
         ensures told { files self.new ≡ files self.old }
+        ensures asks { OnOk result (asked self.new ≡ asks name.now (asked self.old)) }
+        ensures asks_at_most { OnErr result (AsksAtMost name.now (asked self.old) (asked self.new)) }
         ensures count { faults self.old ≤ faults self.new };
 }
 

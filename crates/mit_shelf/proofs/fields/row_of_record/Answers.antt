@@ -27,4 +27,4 @@ loop-column-preserved c =
 pub returns : goal.returns
 returns c =
     let many : length (fields_of c.args.fields.now) ≡ length c.args.types.now = omega arith in
-    rw c.from_values.ensures (row_of_all c.args.types.now (fields_of c.args.fields.now) c.loop-column.values.items c.loop-column.column many (omega arith) c.loop-column.invariant)
+    rw c.in_ok-from_values.ensures (row_of_all c.args.types.now (fields_of c.args.fields.now) c.loop-column.values.items c.loop-column.column many (omega arith) c.loop-column.invariant)
