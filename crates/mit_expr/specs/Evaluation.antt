@@ -23,10 +23,10 @@ is_strict op.Or = false
 is_strict operator = true
 
 -- whether the left value decides alone, where it is a truth value
-abbrev pub decides : BinOp → Value → Option Bool
-decides op.And (Truth truth) = Some (not truth)
-decides op.Or (Truth truth) = Some truth
-decides operator left = None
+abbrev pub decides_alone : BinOp → Value → Option Bool
+decides_alone op.And (Truth truth) = Some (not truth)
+decides_alone op.Or (Truth truth) = Some truth
+decides_alone operator left = None
 
 -- the text that an evaluation gives
 abbrev pub text_in : ValueOrFault → List ℕ
@@ -41,14 +41,14 @@ IsOther (gives (Truth truth)) = ⊤
 IsOther other = ⊥
 
 -- an evaluation gives a text, which stands after what a text held before
-abbrev pub Adds : ValueOrFault → List ℕ → List ℕ → Type 0
-Adds due before after = (due ≡ gives (Text (text_in due))) × (after ≡ before ++ text_in due)
+abbrev pub AddsText : ValueOrFault → List ℕ → List ℕ → Type 0
+AddsText due before after = (due ≡ gives (Text (text_in due))) × (after ≡ before ++ text_in due)
 
 -- the same, or it gives a value that is no text
 abbrev pub Appends : ValueOrFault → List ℕ → List ℕ → Bool → Type 0
-Appends due before after true = Adds due before after
+Appends due before after true = AddsText due before after
 Appends due before after false = IsOther due
 
 -- the same of a text within the limit
-abbrev pub Joins : ValueOrFault → List ℕ → List ℕ → Type 0
-Joins due before after = Adds due before after × (length (text_in due) ≤ MAX_TEXT)
+abbrev pub JoinsText : ValueOrFault → List ℕ → List ℕ → Type 0
+JoinsText due before after = AddsText due before after × (length (text_in due) ≤ MAX_TEXT)

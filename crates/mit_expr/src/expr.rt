@@ -83,7 +83,7 @@ impl Expr {
         match self {
             Expr::Column(column) => Ok(Expr::Column(*column)),
             Expr::Capture(capture) => Ok(Expr::Capture(*capture)),
-            Expr::Lit(value) => Ok(Expr::Lit(value.copy(alloc)?)),
+            Expr::Lit(value) => Ok(Expr::Lit(value.copy()?)),
             Expr::Bin { op, left, right } => Ok(Expr::Bin {
                 op: *op,
                 left: copy_boxed(alloc, left)?,

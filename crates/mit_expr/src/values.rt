@@ -170,7 +170,7 @@ fn operate(op: BinOp, left: &Value, right: &Value) -> Result<Value, EvalStop>
 /// Whether the left value of `and` or `or` decides, so that the right side is not evaluated; none where it is no truth
 /// value.
 fn decides(op: BinOp, left: &Value) -> Option<bool>
-    ensures { result ≡ step.decides op left.now }
+    ensures { result ≡ step.decides_alone op left.now }
 {
     match (op, left) {
         (BinOp::And, Value::Bool(truth)) => Some(!*truth),
@@ -205,11 +205,11 @@ fn call_on(alloc: Global, call: Call, value: Value) -> Result<Value, EvalStop>
 }
 
 /// A copy of the value at this place.
-fn value_at(alloc: Global, values: &[Value], place: usize) -> Result<Value, EvalStop>
+fn value_at(values: &[Value], place: usize) -> Result<Value, EvalStop>
     ensures { step.Follows (spec.value_at (slice_get values.now place)) result }
 {
     match values.get(place) {
-        Some(value) => Ok(value.copy(alloc)?),
+        Some(value) => Ok(value.copy()?),
         None => Err(EvalStop::Untyped),
     }
 }
@@ -220,9 +220,9 @@ fn evaluate(alloc: Global, expr: &Expr, row: &Row, captures: &[Value]) -> Result
     ensures { step.Follows (spec.value_in row.now captures.now expr.now) result }
 {
     match expr {
-        Expr::Column(column) => value_at(alloc, row.values(), usize::from(*column)),
-        Expr::Capture(capture) => value_at(alloc, captures, usize::from(*capture)),
-        Expr::Lit(value) => Ok(value.copy(alloc)?),
+        Expr::Column(column) => value_at(row.values(), usize::from(*column)),
+        Expr::Capture(capture) => value_at(captures, usize::from(*capture)),
+        Expr::Lit(value) => Ok(value.copy()?),
         Expr::Bin { op, left, right } => {
             evaluate_both(alloc, *op, left.get(), right.get(), row, captures)
         }
@@ -282,7 +282,7 @@ fn join(
     captures: &[Value],
     text: &mut String,
 ) -> Result<(), EvalStop>
-    ensures ok { OnOk result (step.Joins (spec.combined BinOp.Concat
+    ensures ok { OnOk result (step.JoinsText (spec.combined BinOp.Concat
         (spec.value_in row.now captures.now left.now) (spec.value_in row.now captures.now right.now))
         (string_bytes text.old) (string_bytes text.new)) }
     ensures err { IfErr result (λ stop. step.Follows (spec.combined BinOp.Concat

@@ -18,7 +18,7 @@ use Rattle.mit_ops.specs.Forms.{rows_at}
 use Rattle.mit_ops.specs.Kinds.{bag_inputs_of}
 use Rattle.mit_ops.specs.Operators.{captured, form_of, if_captured, one_value, part_apply, scalar_in, single, whole, written}
 use Rattle.mit_ops.specs.Parts.{SameBags}
-use Rattle.mit_ops.specs.Totals.{aggregate, extreme, greater, lesser, number_in, picked, total}
+use Rattle.mit_ops.specs.Totals.{aggregate, extreme, greater, integer_in, lesser, picked, total}
 use Rattle.mit_ops.specs.declared.faults.FaultKind.TheVariants.{BadName, NotOne}
 use Rattle.mit_ops.specs.declared.kinds.Agg.{Agg}
 use Rattle.mit_ops.specs.declared.kinds.Agg.TheVariants as agg
@@ -33,7 +33,7 @@ use Rattle.mit_ops.proofs.RowLaws.{RowLaws, bag_of_bag, fold_same_bag, moved_fro
 total_same : (column : ℕ) (xs ys : List RowOf) → bag_of xs ≡ bag_of ys → total column xs ≡ total column ys
 unfolding total
 total_same column =
-    fold_same_bag (λ row sum. number_in (slice_get row column) +ℤ sum) (total column) (λ row rows. refl) (λ row other sum. omega (arith, ints))
+    fold_same_bag (λ row sum. integer_in (slice_get row column) +ℤ sum) (total column) (λ row rows. refl) (λ row other sum. omega (arith, ints))
 
 module _ (pick : Value → Value → Value) (comm : (a b : Value) → pick a b ≡ pick b a) (assoc : (a b c : Value) → pick (pick a b) c ≡ pick a (pick b c)) where
   picked_swap : (a b c : Option Value) → picked pick a (picked pick b c) ≡ picked pick b (picked pick a c)

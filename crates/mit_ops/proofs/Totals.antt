@@ -14,7 +14,7 @@ use Rattle.mit_rows.specs.declared.value.Value.TheVariants.{Int}
 use Rattle.mit_expr.specs.Types.{type_of_value}
 use Rattle.mit_expr.specs.Values.{ValueOrFault, faults, gives, overflow, untyped, value_at, within}
 use Rattle.mit_ops.specs.Results.{agg_type}
-use Rattle.mit_ops.specs.Totals.{aggregate, extreme, greater, lesser, number_in, picked, total}
+use Rattle.mit_ops.specs.Totals.{aggregate, extreme, greater, integer_in, lesser, picked, total}
 use Rattle.mit_ops.specs.TotalStored.{beyond, counts_none, extreme_in, next_extreme, next_sum, sum_in, total_of}
 use Rattle.mit_ops.specs.declared.kinds.Agg.{Agg}
 use Rattle.mit_ops.specs.declared.kinds.Agg.TheVariants as agg
@@ -57,7 +57,7 @@ picked_assoc pick assoc (Some a) (Some b) None = refl
 picked_assoc pick assoc (Some a) (Some b) (Some c) = ap Some (assoc a b c)
 
 -- ---- sums
-total-push : (column : ℕ) (rows : List RowOf) (row : RowOf) → total column (rows ++ row ∷ []) ≡ total column rows +ℤ number_in (slice_get row column)
+total-push : (column : ℕ) (rows : List RowOf) (row : RowOf) → total column (rows ++ row ∷ []) ≡ total column rows +ℤ integer_in (slice_get row column)
 unfolding total
 total-push column [] row = omega (arith, ints)
 total-push column (first ∷ rows) row = omega (arith, ints, total-push column rows row)

@@ -9,6 +9,7 @@ pub mod EachRow
 pub mod Totals
 pub mod Operators
 pub mod Parts
+pub mod KeyStored
 pub mod KeyLaws
 pub mod AnswerStored
 pub mod Stops

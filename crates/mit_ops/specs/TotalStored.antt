@@ -7,7 +7,7 @@ use Rattle.mit_rows.specs.Bags.{RowOf}
 use Rattle.mit_rows.specs.Order.{value_cmp}
 use Rattle.mit_rows.specs.declared.value.Value.{Value}
 use Rattle.mit_expr.specs.Values.{untyped}
-use Rattle.mit_ops.specs.Totals.{aggregate, extreme, greater, lesser, number_in, picked, total}
+use Rattle.mit_ops.specs.Totals.{aggregate, extreme, greater, integer_in, lesser, picked, total}
 use Rattle.mit_ops.specs.declared.kinds.Agg.{Agg}
 use Rattle.mit_ops.specs.declared.kinds.Agg.TheVariants as agg
 use Rattle.mit_ops.specs.declared.total.Total.{Total}
@@ -40,7 +40,7 @@ beyond side old value = if ordering_index (value_cmp value old) == ordering_inde
 
 -- with one row more
 abbrev pub next_sum : Agg → ℤ → RowOf → ℤ
-next_sum (agg.Sum column) sum row = sum +ℤ number_in (slice_get row column)
+next_sum (agg.Sum column) sum row = sum +ℤ integer_in (slice_get row column)
 next_sum other sum row = sum
 
 abbrev pub next_extreme : Agg → Option Value → RowOf → Option Value

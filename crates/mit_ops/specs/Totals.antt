@@ -10,14 +10,14 @@ use Rattle.mit_ops.specs.declared.kinds.Agg.{Agg}
 use Rattle.mit_ops.specs.declared.kinds.Agg.TheVariants as agg
 
 -- an integer; 0 for anything else, which is never reached where the column is one of integers
-abbrev pub number_in : Option Value → ℤ
-number_in (Some (Int number)) = number
-number_in other = pos 0
+abbrev pub integer_in : Option Value → ℤ
+integer_in (Some (Int number)) = number
+integer_in other = pos 0
 
 -- the exact sum of a column
 unfoldable pub total : ℕ → List RowOf → ℤ
 total column [] = pos 0
-total column (row ∷ rows) = number_in (slice_get row column) +ℤ total column rows
+total column (row ∷ rows) = integer_in (slice_get row column) +ℤ total column rows
 
 abbrev pub lesser : Value → Value → Value
 lesser a b = if is_le (value_cmp a b) then a else b

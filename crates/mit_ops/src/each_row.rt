@@ -85,11 +85,31 @@ pub fn row_of_exprs(
         spec.row_of_exprs captures.now exprs.now row.now ≡ Ok (made ∷ [])) }
     ensures err { IfErr result (Stops (spec.row_of_exprs captures.now exprs.now row.now)) }
 {
+    match exprs {
+        [only] => Ok(Row::from_value(value_of(alloc, only, row, captures)?)),
+        [first, second] => {
+            let first = value_of(alloc, first, row, captures)?;
+            let second = value_of(alloc, second, row, captures)?;
+            Ok(Row::from_pair(alloc, first, second)?)
+        }
+        _ => row_of_many(alloc, exprs, row, captures),
+    }
+}
+
+/// The same for any number of expressions.
+fn row_of_many(alloc: Global, exprs: &[Expr], row: &Row, captures: &[Value]) -> Result<Row, OpStop>
+    requires few { length exprs.now ≤ MAX_COLUMNS }
+    requires typed { IsSome (due.types_of (type_in (map type_of_value row.now)
+        (map type_of_value captures.now)) exprs.now) }
+    ensures ok { IfOk result (λ made.
+        spec.row_of_exprs captures.now exprs.now row.now ≡ Ok (made ∷ [])) }
+    ensures err { IfErr result (Stops (spec.row_of_exprs captures.now exprs.now row.now)) }
+{
     let mut values = Vec::with_capacity(alloc, exprs.len())?;
     for expr in exprs {
         values.push(value_of(alloc, expr, row, captures)?)?;
     }
-    Ok(Row::from_values(values))
+    Ok(Row::from_values(values)?)
 }
 
 /// Whether a row stays: the expression is true there.
@@ -106,27 +126,6 @@ pub fn keeps(alloc: Global, expr: &Expr, row: &Row, captures: &[Value]) -> Resul
     }
 }
 
-/// Adds copies of these values.
-fn copy_values(alloc: Global, values: &[Value], onto: &mut Vec<Value>) -> Result<(), AllocError>
-    ensures { OnOk result (onto.new.items ≡ onto.old.items ++ values.now) }
-{
-    for value in values {
-        onto.push(value.copy(alloc)?)?;
-    }
-    Ok(())
-}
-
-/// A row, followed by another one.
-pub fn joined(alloc: Global, left: &Row, right: &Row) -> Result<Row, AllocError>
-    requires { length left.now + length right.now ≤ MAX_COLUMNS }
-    ensures { IfOk result (λ row. row ≡ left.now ++ right.now) }
-{
-    let mut values = Vec::with_capacity(alloc, left.values().len() + right.values().len())?;
-    copy_values(alloc, left.values(), &mut values)?;
-    copy_values(alloc, right.values(), &mut values)?;
-    Ok(Row::from_values(values))
-}
-
 /// Adds a row, followed by one value more.
 fn add_extended(
     alloc: Global,
@@ -138,10 +137,7 @@ fn add_extended(
     ensures ok { OnOk result (out.new.items ≡ out.old.items ++ (row.now ++ value ∷ []) ∷ []) }
     ensures err { OnErr result (out.new.items ≡ out.old.items) }
 {
-    let mut values = Vec::with_capacity(alloc, row.values().len() + 1)?;
-    copy_values(alloc, row.values(), &mut values)?;
-    values.push(value)?;
-    out.push(Row::from_values(values))?;
+    out.push(Row::joined(alloc, row, &Row::from_value(value))?)?;
     Ok(())
 }
 

@@ -1,5 +1,5 @@
 //! Keys of rows: their hash, whether two are the same, and keys that are kept.
-ghost use Rattle.std.specs.Prelude.{◌≡◌, ◌<◌, ◌∷◌, [], IfOk, IfNone, IfSome, length};
+ghost use Rattle.std.specs.Prelude.{◌≡◌, ◌<◌, ◌≤◌, ◌∷◌, [], IfOk, IfNone, IfSome, length, vec_len};
 ghost use Rattle.std.specs.Hash as fed;
 ghost use Rattle.std.specs.List.{fold};
 ghost use Rattle.mit_ops.specs.Forms.{same_row};
@@ -7,7 +7,7 @@ ghost use Rattle.mit_ops.specs.KeyLaws.{keys_equal, keys_partial, same_hash};
 ghost use Rattle.mit_ops.specs.Keys as spec;
 ghost use Rattle.mit_ops.specs.Keys.{key_bytes, key_hash, key_of, value_bytes};
 
-use mit_rows::{Row, Value, cmp_values};
+use mit_rows::{MAX_COLUMNS, Row, Value, cmp_values};
 use std::alloc::{AllocError, Global};
 use std::hash::{Hash, Hasher};
 use std::marker::Model;
@@ -140,7 +140,14 @@ fn same_values(a: &[Value], b: &[Value]) -> bool
 /// A key that is kept: any number of values, which contracts see as their list. It can be a key of a map.
 #[derive(Debug, Drop)]
 pub struct Key {
-    values: Vec<Value>,
+    stored: StoredKey,
+}
+
+// A key of not too many columns is a row, whose copies share their values.
+#[derive(Debug, Drop)]
+enum StoredKey {
+    Row(Row),
+    Wide(Vec<Value>),
 }
 
 impl Model for Key {
@@ -149,49 +156,87 @@ impl Model for Key {
 
     ghost Value = { List OneValue };
 
-    ghost view = { λ k. k.values.items };
+    ghost use Rattle.mit_ops.specs.KeyStored.{values_of_key};
+
+    ghost view = { λ k. values_of_key k.stored };
 }
 
 impl Key {
     /// The values of a row in these columns, in this order.
+    #[tactic(auto, unfolding(crate::specs::Keys::key_of))]
     pub fn of(alloc: Global, columns: &[u8], row: &Row) -> Result<Key, AllocError>
         ensures { IfOk result (λ key. key ≡ key_of columns.now row.now) }
     {
-        let source = row.values();
-        let mut rest = columns;
-        let mut values = Vec::with_capacity(alloc, columns.len())?;
-        while let Some((value, later)) = first_value(rest, source) {
-            values.push(value.copy(alloc)?)?;
-            rest = later;
+        if let Some((only, [])) = first_value(columns, row.values()) {
+            let row = Row::from_value(only.copy()?);
+            return Ok(Key {
+                stored: StoredKey::Row(row),
+            });
         }
-        Ok(Key { values })
+        let values = values_in(alloc, columns, row)?;
+        let stored = if values.len() <= MAX_COLUMNS {
+            StoredKey::Row(Row::from_values(values)?)
+        } else {
+            StoredKey::Wide(values)
+        };
+        Ok(Key { stored })
     }
 
     /// All values of a row.
-    pub fn of_row(alloc: Global, row: &Row) -> Result<Key, AllocError>
+    pub fn of_row(row: &Row) -> Result<Key, AllocError>
         ensures { IfOk result (λ key. key ≡ row.now) }
     {
-        let source = row.values();
-        let mut values = Vec::with_capacity(alloc, source.len())?;
-        for value in source {
-            values.push(value.copy(alloc)?)?;
-        }
-        Ok(Key { values })
+        Ok(Key {
+            stored: StoredKey::Row(row.copy()?),
+        })
     }
 
     /// Its values.
     pub fn values(&self) -> &[Value]
         ensures { result.now ≡ self.now }
     {
-        &self.values
+        match &self.stored {
+            StoredKey::Row(row) => row.values(),
+            StoredKey::Wide(values) => values,
+        }
     }
 
-    /// Its values, taken out.
-    pub fn into_values(self) -> Vec<Value>
-        ensures { result.items ≡ self }
+    /// Its values as a row.
+    pub fn to_row(&self) -> Result<Row, AllocError>
+        requires { length self.now ≤ MAX_COLUMNS }
+        ensures { IfOk result (λ row. row ≡ self.now) }
     {
-        self.values
+        match &self.stored {
+            StoredKey::Row(row) => row.copy(),
+            StoredKey::Wide(values) => row_of_copies(values),
+        }
     }
+}
+
+/// The values of a row in these columns.
+fn values_in(alloc: Global, columns: &[u8], row: &Row) -> Result<Vec<Value>, AllocError>
+    ensures { IfOk result (λ values. values.items ≡ key_of columns.now row.now) }
+{
+    let source = row.values();
+    let mut rest = columns;
+    let mut values = Vec::with_capacity(alloc, columns.len())?;
+    while let Some((value, later)) = first_value(rest, source) {
+        values.push(value.copy()?)?;
+        rest = later;
+    }
+    Ok(values)
+}
+
+/// A row of copies of these values.
+fn row_of_copies(values: &Vec<Value>) -> Result<Row, AllocError>
+    requires { vec_len values.now ≤ MAX_COLUMNS }
+    ensures { IfOk result (λ row. row ≡ values.now.items) }
+{
+    let mut copies = Vec::with_capacity(*values.allocator(), values.len())?;
+    for value in values {
+        copies.push(value.copy()?)?;
+    }
+    Row::from_values(copies)
 }
 
 impl PartialEq for Key {
@@ -200,7 +245,7 @@ impl PartialEq for Key {
     ghost laws = { keys_partial };
 
     fn eq(&self, other: &Key) -> bool {
-        same_values(&self.values, &other.values)
+        same_values(self.values(), other.values())
     }
 }
 
@@ -214,6 +259,6 @@ impl Hash for Key {
     ghost respects_eq = { same_hash };
 
     fn hash<H: Hasher>(&self, state: &mut H) {
-        hash_of_values(&self.values).hash(state);
+        hash_of_values(self.values()).hash(state);
     }
 }

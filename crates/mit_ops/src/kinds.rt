@@ -87,7 +87,7 @@ impl Flat {
         match self {
             Flat::Words { expr, separator } => Ok(Flat::Words {
                 expr: expr.copy(alloc)?,
-                separator: separator.copy(alloc)?,
+                separator: separator.copy()?,
             }),
             Flat::Range { from, to } => Ok(Flat::Range {
                 from: from.copy(alloc)?,

@@ -14,7 +14,7 @@ mod total;
 mod types;
 
 pub use answer::{Answer, cmp_faults};
-pub use each_row::{OpStop, flatten, joined, keeps, row_of_exprs};
+pub use each_row::{OpStop, flatten, keeps, row_of_exprs};
 pub use faults::{FaultKind, OpFault, ScriptFault};
 pub use keys::{Key, hash_of, same_key};
 pub use kinds::{Agg, Flat, MAX_RANGE, OpSpec};

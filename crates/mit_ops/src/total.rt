@@ -14,7 +14,7 @@ use crate::faults::FaultKind;
 use crate::kinds::Agg;
 use mit_rows::laws::rows_are_ordered;
 use mit_rows::{Row, Value, cmp_values};
-use std::alloc::{AllocError, Global};
+use std::alloc::AllocError;
 use std::cmp::Ordering;
 
 /// What is made of the rows of a group so far. Contracts say of which rows it is the total, and when it has a value.
@@ -51,7 +51,7 @@ impl Total {
     }
 
     /// Adds a row. Where memory runs out, or at 2^64 - 1 rows, the total stays as it is.
-    pub fn add(&mut self, alloc: Global, row: &Row) -> Result<(), AllocError>
+    pub fn add(&mut self, row: &Row) -> Result<(), AllocError>
         ensures ok { (agg : Agg) (rows : List RowOf) → self.old ≡ total_of agg rows
             → OnOk result (self.new ≡ total_of agg (rows ++ row.now ∷ [])) }
         ensures has_value { (agg : Agg) (rows : List RowOf) → self.old ≡ total_of agg rows
@@ -61,14 +61,14 @@ impl Total {
         rows_are_ordered();
         let rows = self.rows.checked_add(1).ok_or(AllocError)?;
         let sum = next_sum(self.agg, self.sum, row)?;
-        keep_extreme(alloc, self.agg, &mut self.extreme, row)?;
+        keep_extreme(self.agg, &mut self.extreme, row)?;
         self.sum = sum;
         self.rows = rows;
         Ok(())
     }
 
     /// What is made of the rows.
-    pub fn value(&self, alloc: Global) -> Result<Value, OpStop>
+    pub fn value(&self) -> Result<Value, OpStop>
         requires { HasValue self.now }
         ensures { (agg : Agg) (rows : List RowOf) → self.now ≡ total_of agg rows
             → Gives (spec.aggregate agg rows) result }
@@ -76,7 +76,7 @@ impl Total {
         match self.agg {
             Agg::Count => within(i128::from(self.rows)),
             Agg::Sum(_) => within(self.sum),
-            Agg::Min(_) | Agg::Max(_) => copy_value(alloc, &self.extreme),
+            Agg::Min(_) | Agg::Max(_) => copy_value(&self.extreme),
         }
     }
 }
@@ -102,30 +102,19 @@ fn next_sum(agg: Agg, sum: i128, row: &Row) -> Result<i128, AllocError>
 }
 
 /// The least or the greatest value with one row more.
-fn keep_extreme(
-    alloc: Global,
-    agg: Agg,
-    kept: &mut Option<Value>,
-    row: &Row,
-) -> Result<(), AllocError>
+fn keep_extreme(agg: Agg, kept: &mut Option<Value>, row: &Row) -> Result<(), AllocError>
     ensures ok { OnOk result (kept.new ≡ stored.next_extreme agg kept.old row.now) }
     ensures err { OnErr result (kept.new ≡ kept.old) }
 {
     match agg {
         Agg::Count | Agg::Sum(_) => Ok(()),
-        Agg::Min(column) => keep(alloc, kept, row, column, Ordering::Less),
-        Agg::Max(column) => keep(alloc, kept, row, column, Ordering::Greater),
+        Agg::Min(column) => keep(kept, row, column, Ordering::Less),
+        Agg::Max(column) => keep(kept, row, column, Ordering::Greater),
     }
 }
 
 /// Keeps the value of a column in place of the one kept before, where it is beyond that on the side given.
-fn keep(
-    alloc: Global,
-    kept: &mut Option<Value>,
-    row: &Row,
-    column: u8,
-    side: Ordering,
-) -> Result<(), AllocError>
+fn keep(kept: &mut Option<Value>, row: &Row, column: u8, side: Ordering) -> Result<(), AllocError>
     ensures ok { OnOk result (kept.new
         ≡ spec.picked (stored.beyond side) kept.old (slice_get row.now column)) }
     ensures err { OnErr result (kept.new ≡ kept.old) }
@@ -134,7 +123,7 @@ fn keep(
         return Ok(());
     };
     if replaces(kept, value, side) {
-        *kept = Some(value.copy(alloc)?);
+        *kept = Some(value.copy()?);
     }
     Ok(())
 }
@@ -160,12 +149,12 @@ fn within(number: i128) -> Result<Value, OpStop>
 }
 
 /// An equal value, of one that is there.
-fn copy_value(alloc: Global, value: &Option<Value>) -> Result<Value, OpStop>
+fn copy_value(value: &Option<Value>) -> Result<Value, OpStop>
     requires { IsSome value.now }
     ensures { Gives (due.value_at value.now) result }
 {
     match value {
-        Some(value) => Ok(value.copy(alloc)?),
+        Some(value) => Ok(value.copy()?),
         None => unreachable!(),
     }
 }

@@ -4,7 +4,7 @@ use Rattle.mit_expr.specs.Values.{value_in}
 use Rattle.mit_ops.specs.EachRow.{given_all}
 use Rattle.mit_ops.specs.Results.{types_of}
 use Rattle.mit_ops.proofs.EachRows.{one_row}
-use Rattle.mit_ops.proofs.each_row.row_of_exprs.Given as goal
+use Rattle.mit_ops.proofs.each_row.row_of_many.Given as goal
 
 abbrev pub invariant-loop-expr : goal.invariant-loop-expr
 invariant-loop-expr l = record {
