@@ -1,4 +1,2 @@
 mod Walks
-pub mod Grouping
-pub mod Making
 pub mod Fitting

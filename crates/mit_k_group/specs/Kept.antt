@@ -7,7 +7,7 @@ use Rattle.mit_ops.specs.TotalStored.{total_of}
 use Rattle.mit_ops.specs.declared.kinds.Agg.TheVariants as agg
 use Rattle.mit_ops.specs.declared.kinds.OpSpec.{OpSpec}
 use Rattle.mit_ops.specs.declared.kinds.OpSpec.TheVariants as op
-use Rattle.mit_k_group.specs.Groups.{grouped}
+use Rattle.mit_keyed.specs.Groups.{grouped}
 use Rattle.mit_k_group.specs.OnlyRow.{IsFirst}
 use Rattle.mit_k_group.specs.declared.running.Running.{Running}
 use Rattle.mit_k_group.specs.declared.running.Running.TheVariants.{Reduce, Distinct, Only, Count, Sum}
@@ -28,8 +28,8 @@ Holds (Count total) rows = total ≡ total_of agg.Count rows
 Holds (Sum column total) rows = total ≡ total_of (agg.Sum column) rows
 
 -- it stands for some rows that fit the operator
-abbrev pub Stands : Running → Type 0
-Stands running = (rows : List RowOf) × Holds running rows × Fits (operator running) (rows ∷ [])
+abbrev pub StandsForRows : Running → Type 0
+StandsForRows running = (rows : List RowOf) × Holds running rows × Fits (operator running) (rows ∷ [])
 
 -- its answer is one for all rows
 abbrev pub is_one : Running → Bool

@@ -1,6 +1,6 @@
 //! A slot of a kernel: an operator in one partition of so many, with what is kept of the rows that it was fed.
 ghost use Rattle.std.specs.Prelude.{◌≡◌, ◌<◌, IfOk, OnErr, OnOk, Some, length};
-ghost use Rattle.mit_kernel.specs.Meaning.{kept, no_rows, part_in, with_lists, with_row};
+ghost use Rattle.mit_kernel.specs.Meaning.{kept_lists, no_rows, part_in, with_lists, with_row};
 ghost use Rattle.mit_ops.specs.Kinds.{kind_of};
 ghost use Rattle.mit_ops.specs.Parts.{Fits};
 ghost use Rattle.mit_k_group.specs.GroupKinds.{IsGroupKind};
@@ -86,7 +86,7 @@ impl Entry {
 
     /// Forgets the rows, unless they are to be kept.
     pub(crate) fn renew(&mut self, keep: &[bool])
-        ensures { self.new ≡ with_lists (kept keep.now) self.old }
+        ensures { self.new ≡ with_lists (kept_lists keep.now) self.old }
     {
         fewer_rows_law();
         if let Some(false) = keep.first() {

@@ -22,12 +22,12 @@ pub struct GroupKernel {
 }
 
 impl GroupKernel {
-    ghost use Rattle.mit_k_group.specs.GroupMeaning.{meaning_of};
+    ghost use Rattle.mit_k_group.specs.GroupMeaning.{group_meaning};
 
     /// A kernel of this kind, with no slots.
     pub fn new(alloc: Global, kind: u8) -> Result<GroupKernel, AllocError>
         requires { IsGroupKind kind }
-        ensures { IfOk result (λ kernel. meaning_of kernel ≡ record { kind = kind; fed = 0; slots = λ slot. None }) }
+        ensures { IfOk result (λ kernel. group_meaning kernel ≡ record { kind = kind; fed = 0; slots = λ slot. None }) }
     {
         Ok(GroupKernel {
             alloc,
@@ -39,9 +39,9 @@ impl GroupKernel {
 }
 
 impl Kernel for GroupKernel {
-    ghost use Rattle.mit_k_group.specs.GroupMeaning.{meaning_of};
+    ghost use Rattle.mit_k_group.specs.GroupMeaning.{group_meaning};
 
-    ghost meaning = { meaning_of };
+    ghost meaning = { group_meaning };
 
     fn kind(&self) -> u8 {
         self.kind

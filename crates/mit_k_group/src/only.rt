@@ -17,14 +17,14 @@ pub(crate) struct Only {
 }
 
 /// Counts a row, and keeps it where it is the first.
-pub(crate) fn count_row(only: &mut Only, alloc: Global, row: &Row) -> Result<(), AllocError>
+pub(crate) fn count_row(only: &mut Only, row: &Row) -> Result<(), AllocError>
     ensures ok { (rows : List RowOf) → IsFirst only.old rows →
         OnOk result (IsFirst only.new (rows ++ row.now ∷ [])) }
     ensures err { OnErr result (only.new ≡ only.old) }
 {
     let count = only.count.checked_add(1).ok_or(AllocError)?;
     if only.first.is_none() {
-        only.first = Some(row.copy(alloc)?);
+        only.first = Some(row.copy()?);
     }
     only.count = count;
     Ok(())
@@ -37,11 +37,8 @@ pub(crate) fn answer_only(only: &Only, alloc: Global) -> Result<Answer, AllocErr
 {
     let mut answer = Answer::new(alloc);
     match &only.first {
-        Some(row) if only.count == 1 => answer.add_row(row.copy(alloc)?)?,
-        _ => answer.add_fault(
-            Row::from_values(Vec::new(alloc)),
-            FaultKind::NotOne(only.count),
-        ),
+        Some(row) if only.count == 1 => answer.add_row(row.copy()?)?,
+        _ => answer.add_fault(Row::empty(), FaultKind::NotOne(only.count)),
     }
     Ok(answer)
 }

@@ -5,14 +5,12 @@ ghost use Rattle.mit_rows.specs.Bags.{RowOf};
 ghost use Rattle.mit_ops.specs.Kinds.{kind_of};
 ghost use Rattle.mit_ops.specs.Operators.{whole};
 ghost use Rattle.mit_k_group.specs.GroupKinds.{IsGroupKind};
-ghost use Rattle.mit_k_group.specs.Kept.{Holds, Stands, is_one, operator};
+ghost use Rattle.mit_k_group.specs.Kept.{Holds, StandsForRows, is_one, operator};
 
-use crate::distinct::{answer_kept, keep_once};
-use crate::made::answer_total;
 use crate::only::{Only, answer_only, count_row};
-use crate::reduce::{add_to_group, answer_groups};
 use indexmap::{IndexMap, IndexSet};
-use mit_ops::laws::fitting_groups_law;
+use mit_keyed::laws::{distinct_law, groups_law, totals_law};
+use mit_keyed::{add_to_group, answer_groups, answer_kept, answer_total, keep_once};
 use mit_ops::{Agg, Answer, Columns, Key, OpSpec, Total};
 use mit_rows::Row;
 use std::alloc::{AllocError, Global};
@@ -89,10 +87,10 @@ impl Running {
             Running::Reduce { keys, agg, totals } => {
                 add_to_group(totals, alloc, keys.as_slice(), *agg, row)
             }
-            Running::Distinct { kept } => keep_once(kept, alloc, row),
-            Running::Only { only } => count_row(only, alloc, row),
-            Running::Count { total } => total.add(alloc, row),
-            Running::Sum { total, .. } => total.add(alloc, row),
+            Running::Distinct { kept } => keep_once(kept, row),
+            Running::Only { only } => count_row(only, row),
+            Running::Count { total } => total.add(row),
+            Running::Sum { total, .. } => total.add(row),
         }
     }
 
@@ -108,11 +106,13 @@ impl Running {
 
     /// The operator over the rows.
     pub(crate) fn answer(&self, alloc: Global) -> Result<Answer, AllocError>
-        requires { Stands self.now }
+        requires { StandsForRows self.now }
         ensures { (rows : List RowOf) → Holds self.now rows → IfOk result (λ answer. answer
             ≡ whole (operator self.now) (rows ∷ []) fin.empty) }
     {
-        fitting_groups_law();
+        distinct_law();
+        groups_law();
+        totals_law();
         match self {
             Running::Reduce { totals, .. } => answer_groups(totals, alloc),
             Running::Distinct { kept } => answer_kept(kept, alloc),

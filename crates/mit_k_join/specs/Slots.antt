@@ -5,8 +5,8 @@ use Rattle.mit_ops.specs.Forms.{rows_at}
 use Rattle.mit_ops.specs.Kinds.{kind_of}
 use Rattle.mit_ops.specs.declared.kinds.OpSpec.{OpSpec}
 use Rattle.mit_ops.specs.declared.kinds.OpSpec.TheVariants as op
-use Rattle.mit_k_join.specs.Indexes.{IsIndex}
-use Rattle.mit_k_join.specs.declared.index.Index.{Index}
+use Rattle.mit_keyed.specs.Indexes.{IsIndex}
+use Rattle.mit_keyed.specs.declared.index.Index.{Index}
 
 -- the columns of the left keys
 abbrev pub left_keys : OpSpec → List ℕ

@@ -10,8 +10,6 @@ use mit_rows::Row;
 use slab::Slab;
 use std::alloc::{AllocError, Global};
 
-mod index;
-mod matches;
 mod slot;
 
 use slot::JoinSlot;

@@ -1,19 +1,16 @@
 //! A slot of the kernel: what it was fed, with an index of its left rows.
-ghost use Rattle.std.specs.Prelude.{◌≡◌, ◌<◌, ◌++◌, [], IfOk, OnErr, OnOk, Some, length, take};
-ghost use Rattle.std.specs.List.{flat_map};
-ghost use Rattle.mit_kernel.specs.Meaning.{AddsRows, kept, no_rows, part_in, with_lists, with_row};
-ghost use Rattle.mit_ops.specs.Forms.{rows_at};
+ghost use Rattle.std.specs.Prelude.{◌≡◌, ◌<◌, IfOk, OnErr, OnOk, Some, length, take};
+ghost use Rattle.mit_kernel.specs.Meaning.{AddsRows, kept_lists, no_rows, part_in, with_lists, with_row};
 ghost use Rattle.mit_ops.specs.Kinds.{kind_of};
 ghost use Rattle.mit_ops.specs.Parts.{Fits};
 ghost use Rattle.mit_ops.specs.declared.kinds.OpSpec.TheVariants as op;
 
-use crate::index::Index;
-use crate::matches::add_matches;
 use mit_kernel::Fed;
+use mit_keyed::laws::index_law;
+use mit_keyed::{Index, add_matches};
 use mit_ops::laws::fitting_law;
 use mit_ops::{OpSpec, hash_of};
 use mit_rows::Row;
-use mit_rows::laws::bags_are_sorted_lists;
 use std::alloc::{AllocError, Global};
 use std::marker::Model;
 
@@ -75,7 +72,7 @@ impl JoinSlot {
         if input == 0 {
             self.add_left(alloc, row)
         } else {
-            self.fed.add(alloc, input, row)
+            self.fed.add(input, row)
         }
     }
 
@@ -86,11 +83,12 @@ impl JoinSlot {
         ensures ok { OnOk result (self.new ≡ with_lists (λ lists. with_row lists 0 row.now) self.old) }
         ensures err { OnErr result (self.new ≡ self.old) }
     {
+        index_law();
         let (left_keys, _) = join_keys(self.fed.spec());
         let hash = hash_of(left_keys, row);
         let place = self.fed.list(0).len();
         self.index.note(alloc, hash, place)?;
-        let added = self.fed.add(alloc, 0, row);
+        let added = self.fed.add(0, row);
         if added.is_err() {
             self.index.forget(hash);
         }
@@ -99,8 +97,9 @@ impl JoinSlot {
 
     /// Empties the lists of those inputs that are not to be kept.
     pub fn renew(&mut self, alloc: Global, keep: &[bool])
-        ensures { self.new ≡ with_lists (kept keep.now) self.old }
+        ensures { self.new ≡ with_lists (kept_lists keep.now) self.old }
     {
+        index_law();
         self.fed.renew(keep);
         let stays = keep.first().copied().unwrap_or(true);
         if !stays {
@@ -127,7 +126,7 @@ impl JoinSlot {
         ensures err { OnErr result (take (length out.old.items) out.new.items ≡ out.old.items) }
     {
         fitting_law();
-        bags_are_sorted_lists();
+        index_law();
         let (left_keys, right_keys) = join_keys(self.fed.spec());
         let lefts = self.fed.list(0);
         for right in self.fed.list(1) {

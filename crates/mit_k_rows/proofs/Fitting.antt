@@ -19,12 +19,12 @@ use Rattle.mit_ops.specs.Results.{and_types, flat_type, types_of}
 use Rattle.mit_ops.specs.declared.kinds.Flat.{Flat}
 use Rattle.mit_ops.specs.declared.kinds.OpSpec.{OpSpec}
 use Rattle.mit_ops.specs.declared.kinds.OpSpec.TheVariants as op
-use Rattle.mit_k_rows.specs.Gives.{CanGive, gives}
+use Rattle.mit_k_rows.specs.Gives.{CanGive, rows_given}
 use Rattle.mit_k_rows.specs.RowKinds.{IsRowKind}
 
 -- an operator that takes no bags gives something once
 pub once_first : (spec : OpSpec) (files : FileMap) (captures : List Value) (parts : ℕ) (inputs : List (List RowOf)) → IsRowKind (kind_of spec) → bag_inputs_of spec ≡ 0
-    → settled (at_row [] (gives spec captures [])) ≡ part_answer (form_of spec files captures) parts 0 (bags_in spec inputs)
+    → settled (at_row [] (rows_given spec captures [])) ≡ part_answer (form_of spec files captures) parts 0 (bags_in spec inputs)
 unfolding given_all
 once_first (op.Scalar expr) files captures parts inputs of_rows none = refl
 once_first (op.Read name types) files captures parts inputs of_rows none = cc of_rows

@@ -14,18 +14,18 @@ use Rattle.mit_ops.specs.declared.kinds.OpSpec.{OpSpec}
 use Rattle.mit_ops.specs.declared.kinds.OpSpec.TheVariants as op
 
 -- an operator that takes no bag is asked at a row of no values
-abbrev pub gives : OpSpec → List Value → RowOf → RowsOrKind
-gives (op.Scalar expr) captures row = row_of_exprs captures (expr ∷ []) row
-gives (op.Map exprs) captures row = row_of_exprs captures exprs row
-gives (op.Filter expr) captures row = filtered captures expr row
-gives (op.FlatMap flat) captures row = flattened captures flat row
-gives (op.MakeRow exprs) captures row = row_of_exprs captures exprs row
-gives (op.Empty types) captures row = Ok []
-gives other captures row = Ok (row ∷ [])
+abbrev pub rows_given : OpSpec → List Value → RowOf → RowsOrKind
+rows_given (op.Scalar expr) captures row = row_of_exprs captures (expr ∷ []) row
+rows_given (op.Map exprs) captures row = row_of_exprs captures exprs row
+rows_given (op.Filter expr) captures row = filtered captures expr row
+rows_given (op.FlatMap flat) captures row = flattened captures flat row
+rows_given (op.MakeRow exprs) captures row = row_of_exprs captures exprs row
+rows_given (op.Empty types) captures row = Ok []
+rows_given other captures row = Ok (row ∷ [])
 
 -- the sum of what these rows give
 abbrev pub sum_given : OpSpec → List Value → List RowOf → BagOrFault
-sum_given spec captures = over (λ row. at_row row (gives spec captures row))
+sum_given spec captures = over (λ row. at_row row (rows_given spec captures row))
 
 -- the expressions have values at a row
 abbrev pub CanMake : List Expr → List Value → RowOf → Type 0

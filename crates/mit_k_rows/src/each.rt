@@ -11,7 +11,7 @@ ghost use Rattle.mit_ops.specs.Operators.{captures_among};
 ghost use Rattle.mit_ops.specs.Parts.{Fits};
 ghost use Rattle.mit_ops.specs.Stops.{Adds, Stops};
 ghost use Rattle.mit_ops.specs.declared.kinds.OpSpec.{OpSpec};
-ghost use Rattle.mit_k_rows.specs.Gives.{CanGive, CanKeep, CanMake, gives, sum_given};
+ghost use Rattle.mit_k_rows.specs.Gives.{CanGive, CanKeep, CanMake, rows_given, sum_given};
 ghost use Rattle.mit_k_rows.specs.RowKinds.{IsRowKind};
 
 use mit_expr::Expr;
@@ -62,9 +62,9 @@ pub fn add_once(
     answer: &mut Answer,
 ) -> Result<(), AllocError>
     requires { CanGive spec.now captures.now [] }
-    ensures { OnOk result (answer.new ≡ both answer.old (at_row [] (gives spec.now captures.now []))) }
+    ensures { OnOk result (answer.new ≡ both answer.old (at_row [] (rows_given spec.now captures.now []))) }
 {
-    let row = Row::from_values(Vec::new(alloc));
+    let row = Row::empty();
     let mut made = Vec::new(alloc);
     add_given(alloc, spec, captures, &row, &mut made, answer)
 }
@@ -82,12 +82,12 @@ fn add_given(
     requires empty { made.old.items ≡ [] }
     ensures empty { OnOk result (made.new.items ≡ []) }
     ensures adds { OnOk result (answer.new
-        ≡ both answer.old (at_row row.now (gives spec.now captures.now row.now))) }
+        ≡ both answer.old (at_row row.now (rows_given spec.now captures.now row.now))) }
 {
     match give(alloc, spec, captures, row, made) {
         Ok(()) => add_made(made, answer),
         Err(OpStop::Fault(kind)) => {
-            answer.add_fault(row.copy(alloc)?, kind);
+            answer.add_fault(row.copy()?, kind);
             Ok(())
         }
         Err(OpStop::NoMemory) => Err(AllocError),
@@ -117,9 +117,9 @@ fn give(
     out: &mut Vec<Row>,
 ) -> Result<(), OpStop>
     requires { CanGive spec.now captures.now row.now }
-    ensures ok { OnOk result (Adds (gives spec.now captures.now row.now)
+    ensures ok { OnOk result (Adds (rows_given spec.now captures.now row.now)
         out.old.items out.new.items) }
-    ensures err { IfErr result (Stops (gives spec.now captures.now row.now)) }
+    ensures err { IfErr result (Stops (rows_given spec.now captures.now row.now)) }
     ensures kept { OnErr result (out.new.items ≡ out.old.items) }
 {
     match spec {
@@ -129,7 +129,7 @@ fn give(
         }
         OpSpec::Filter { expr } => give_kept(alloc, expr, row, captures, out),
         OpSpec::FlatMap { flat } => flatten(alloc, flat, row, captures, out),
-        OpSpec::Union | OpSpec::Copy => give_copy(alloc, row, out),
+        OpSpec::Union | OpSpec::Copy => give_copy(row, out),
         OpSpec::Empty { .. } => Ok(()),
         _ => unreachable!(),
     }
@@ -168,17 +168,17 @@ fn give_kept(
     ensures kept { OnErr result (out.new.items ≡ out.old.items) }
 {
     if keeps(alloc, expr, row, captures)? {
-        out.push(row.copy(alloc)?)?;
+        out.push(row.copy()?)?;
     }
     Ok(())
 }
 
 /// Adds a copy of a row.
-fn give_copy(alloc: Global, row: &Row, out: &mut Vec<Row>) -> Result<(), OpStop>
+fn give_copy(row: &Row, out: &mut Vec<Row>) -> Result<(), OpStop>
     ensures ok { OnOk result (out.new.items ≡ out.old.items ++ row.now ∷ []) }
     ensures err { IfErr result (Stops (Ok (row.now ∷ []))) }
     ensures kept { OnErr result (out.new.items ≡ out.old.items) }
 {
-    out.push(row.copy(alloc)?)?;
+    out.push(row.copy()?)?;
     Ok(())
 }

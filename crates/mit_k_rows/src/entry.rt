@@ -8,8 +8,8 @@ ghost use Rattle.mit_ops.specs.Kinds.{bag_inputs_of, kind_of};
 ghost use Rattle.mit_ops.specs.Operators.{bags_in, captures_among, form_of};
 ghost use Rattle.mit_ops.specs.Parts.{Fits};
 ghost use Rattle.mit_kernel.specs.Finishing.{Finishes};
-ghost use Rattle.mit_kernel.specs.Meaning.{kept, no_rows, part_in, with_lists, with_row};
-ghost use Rattle.mit_k_rows.specs.Gives.{gives, sum_given};
+ghost use Rattle.mit_kernel.specs.Meaning.{kept_lists, no_rows, part_in, with_lists, with_row};
+ghost use Rattle.mit_k_rows.specs.Gives.{rows_given, sum_given};
 ghost use Rattle.mit_k_rows.specs.RowKinds.{IsRowKind};
 
 use crate::each::{add_once, add_rows, rows_may_be_asked};
@@ -56,19 +56,19 @@ impl Entry {
     }
 
     /// Adds a copy of a row to the list of an input.
-    pub fn add(&mut self, alloc: Global, input: u16, row: &Row) -> Result<(), AllocError>
+    pub fn add(&mut self, input: u16, row: &Row) -> Result<(), AllocError>
         requires within { input < length self.old.lists }
         requires fits { Fits self.old.spec (with_row self.old.lists input row.now) }
         ensures ok { OnOk result (self.new
             ≡ with_lists (λ lists. with_row lists input row.now) self.old) }
         ensures err { OnErr result (self.new ≡ self.old) }
     {
-        self.fed.add(alloc, input, row)
+        self.fed.add(input, row)
     }
 
     /// Empties the lists of those inputs that are not to be kept.
     pub fn renew(&mut self, keep: &[bool])
-        ensures { self.new ≡ with_lists (kept keep.now) self.old }
+        ensures { self.new ≡ with_lists (kept_lists keep.now) self.old }
     {
         self.fed.renew(keep);
     }
@@ -134,7 +134,7 @@ impl Entry {
         requires captured { captures_among self.now.spec self.now.lists ≡ Some captures.now }
         requires once { bag_inputs_of self.now.spec ≡ 0 }
         ensures { IfOk result (λ answer. answer
-            ≡ settled (at_row [] (gives self.now.spec captures.now []))) }
+            ≡ settled (at_row [] (rows_given self.now.spec captures.now []))) }
     {
         rows_may_be_asked();
         let mut answer = Answer::new(alloc);

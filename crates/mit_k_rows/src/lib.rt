@@ -2,7 +2,7 @@
 #![tactic(auto)]
 
 ghost use Rattle.std.specs.Prelude.{◌≡◌, IfOk, None};
-ghost use Rattle.mit_k_rows.specs.Kernels.{meaning_of};
+ghost use Rattle.mit_k_rows.specs.Kernels.{rows_meaning};
 ghost use Rattle.mit_k_rows.specs.RowKinds.{IsRowKind};
 
 mod each;
@@ -31,7 +31,7 @@ impl RowsKernel {
     pub fn new(alloc: Global, kind: u8) -> Result<RowsKernel, AllocError>
         requires { IsRowKind kind }
         ensures { IfOk result (λ kernel.
-            meaning_of kernel ≡ record { kind = kind; fed = 0; slots = λ slot. None }) }
+            rows_meaning kernel ≡ record { kind = kind; fed = 0; slots = λ slot. None }) }
     {
         Ok(RowsKernel {
             alloc,
@@ -43,7 +43,7 @@ impl RowsKernel {
 }
 
 impl Kernel for RowsKernel {
-    ghost meaning = { meaning_of };
+    ghost meaning = { rows_meaning };
 
     fn kind(&self) -> u8 {
         self.kind.number()
@@ -56,7 +56,7 @@ impl Kernel for RowsKernel {
     }
 
     fn feed(&mut self, slot: u64, input: u16, row: &Row) -> Result<(), AllocError> {
-        self.slots[slot as usize].add(self.alloc, input, row)?;
+        self.slots[slot as usize].add(input, row)?;
         self.fed = self.fed.saturating_add(1);
         Ok(())
     }

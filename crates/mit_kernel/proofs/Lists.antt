@@ -3,33 +3,33 @@ use Rattle.std.proofs.Common.{◌≡◌, ℕ, zero, suc, ◌<◌, ◌≤◌, Boo
 use Rattle.std.proofs.lemmas.List.Elements.{All-contains_itself, All-nil}
 use Rattle.std.specs.List.{All, AllZip, Contains}
 use Rattle.mit_rows.specs.Bags.{RowOf}
-use Rattle.mit_kernel.specs.Meaning.{kept, with_row}
+use Rattle.mit_kernel.specs.Meaning.{kept_lists, with_row}
 
 pub with_row-set : (lists : List (List RowOf)) (input : ℕ) (row : RowOf) (other : List RowOf) → input < length lists → with_row lists input row ≡ set lists input (get_or lists input other ++ row ∷ [])
 with_row-set [] input row other within = absurd (omega arith)
 with_row-set (rows ∷ later) zero row other within = refl
 with_row-set (rows ∷ later) (suc input) row other within = ap (λ l. rows ∷ l) (with_row-set later input row other (omega arith))
 
-pub kept_none : (lists : List (List RowOf)) → kept [] lists ≡ lists
+pub kept_none : (lists : List (List RowOf)) → kept_lists [] lists ≡ lists
 kept_none [] = refl
 kept_none (rows ∷ later) = refl
 
 -- one more flag
-pub kept_stays : (at : ℕ) (keep : List Bool) (lists : List (List RowOf)) (other : Bool) → at < length keep → get_or keep at other ≡ true → kept (take (suc at) keep) lists ≡ kept (take at keep) lists
+pub kept_stays : (at : ℕ) (keep : List Bool) (lists : List (List RowOf)) (other : Bool) → at < length keep → get_or keep at other ≡ true → kept_lists (take (suc at) keep) lists ≡ kept_lists (take at keep) lists
 kept_stays at keep [] other within stays = refl
 kept_stays at [] (rows ∷ later) other within stays = absurd (omega arith)
 kept_stays zero (flag ∷ keep) (rows ∷ later) other within stays = rw stays (ap (λ l. rows ∷ l) (kept_none later))
 kept_stays (suc at) (flag ∷ keep) (rows ∷ later) other within stays =
     ap (λ l. (if flag then rows else []) ∷ l) (kept_stays at keep later other (omega arith) stays)
 
-pub kept_goes : (at : ℕ) (keep : List Bool) (lists : List (List RowOf)) (other : Bool) → at < length keep → get_or keep at other ≡ false → kept (take (suc at) keep) lists ≡ set (kept (take at keep) lists) at []
+pub kept_goes : (at : ℕ) (keep : List Bool) (lists : List (List RowOf)) (other : Bool) → at < length keep → get_or keep at other ≡ false → kept_lists (take (suc at) keep) lists ≡ set (kept_lists (take at keep) lists) at []
 kept_goes at keep [] other within goes = refl
 kept_goes at [] (rows ∷ later) other within goes = absurd (omega arith)
 kept_goes zero (flag ∷ keep) (rows ∷ later) other within goes = rw goes (ap (λ l. [] ∷ l) (kept_none later))
 kept_goes (suc at) (flag ∷ keep) (rows ∷ later) other within goes =
     ap (λ l. (if flag then rows else []) ∷ l) (kept_goes at keep later other (omega arith) goes)
 
-pub kept_all : (count : ℕ) (keep : List Bool) (lists : List (List RowOf)) → min (length keep) (length lists) ≤ count → kept (take count keep) lists ≡ kept keep lists
+pub kept_all : (count : ℕ) (keep : List Bool) (lists : List (List RowOf)) → min (length keep) (length lists) ≤ count → kept_lists (take count keep) lists ≡ kept_lists keep lists
 kept_all count keep [] enough = refl
 kept_all zero [] (rows ∷ later) enough = refl
 kept_all (suc count) [] (rows ∷ later) enough = refl
@@ -42,7 +42,7 @@ if_kept : (flag : Bool) (rows : List RowOf) → All (Contains rows) (if flag the
 if_kept true rows = All-contains_itself rows
 if_kept false rows = All-nil (Contains rows)
 
-pub kept_among : (keep : List Bool) (lists : List (List RowOf)) → AllZip (λ fewer all. All (Contains all) fewer) (kept keep lists) lists
+pub kept_among : (keep : List Bool) (lists : List (List RowOf)) → AllZip (λ fewer all. All (Contains all) fewer) (kept_lists keep lists) lists
 kept_among keep [] = tt
 kept_among [] (rows ∷ later) = (if_kept true rows, kept_among_all later)
   where

@@ -32,10 +32,10 @@ with_row (rows ∷ later) zero row = (rows ++ row ∷ []) ∷ later
 with_row (rows ∷ later) (suc input) row = rows ∷ with_row later input row
 
 -- these lists, emptied where they are not kept
-abbrev pub kept : List Bool → List (List RowOf) → List (List RowOf)
-kept keep [] = []
-kept [] lists = lists
-kept (stays ∷ keep) (rows ∷ later) = (if stays then rows else []) ∷ kept keep later
+abbrev pub kept_lists : List Bool → List (List RowOf) → List (List RowOf)
+kept_lists keep [] = []
+kept_lists [] lists = lists
+kept_lists (stays ∷ keep) (rows ∷ later) = (if stays then rows else []) ∷ kept_lists keep later
 
 -- the slot is there
 pub record HasSlot (kernel : Meaning) (slot : ℕ) : Type 0 where
@@ -71,14 +71,14 @@ abbrev pub begun : Meaning → ℕ → OpSpec → ℕ → ℕ → Meaning
 begun kernel slot spec part parts = with_slot kernel slot (Some (record { spec = spec; part = part; parts = parts; lists = no_rows spec }))
 
 -- the count stands still at the last value of its type
-abbrev pub counted : Meaning → Meaning
-counted kernel = record kernel { fed = min (kernel.fed + 1) (2 ^ 64 - 1) }
+abbrev pub with_one_fed : Meaning → Meaning
+with_one_fed kernel = record kernel { fed = min (kernel.fed + 1) (2 ^ 64 - 1) }
 
 abbrev pub fed_row : Meaning → ℕ → ℕ → RowOf → Meaning
-fed_row kernel slot input row = counted (changed kernel slot (λ lists. with_row lists input row))
+fed_row kernel slot input row = with_one_fed (changed kernel slot (λ lists. with_row lists input row))
 
 abbrev pub renewed : Meaning → ℕ → List Bool → Meaning
-renewed kernel slot keep = changed kernel slot (kept keep)
+renewed kernel slot keep = changed kernel slot (kept_lists keep)
 
 abbrev pub closed : Meaning → ℕ → Meaning
 closed kernel slot = with_slot kernel slot None

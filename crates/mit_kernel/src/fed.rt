@@ -1,6 +1,6 @@
 //! A slot of a kernel, as kernels store it.
 ghost use Rattle.std.specs.Prelude.{◌≡◌, ◌<◌, ◌≤◌, [], IfOk, OnErr, OnOk, length, map, option_map, replicate};
-ghost use Rattle.mit_kernel.specs.Meaning.{kept, no_rows, with_lists, with_row};
+ghost use Rattle.mit_kernel.specs.Meaning.{kept_lists, no_rows, with_lists, with_row};
 ghost use Rattle.mit_ops.specs.Forms.{rows_at};
 ghost use Rattle.mit_ops.specs.Operators.{captured, captures_among, scalar_in};
 ghost use Rattle.mit_ops.specs.Parts.{Fits};
@@ -61,20 +61,20 @@ impl Fed {
     }
 
     /// Adds a copy of a row to the list of an input.
-    pub fn add(&mut self, alloc: Global, input: u16, row: &Row) -> Result<(), AllocError>
+    pub fn add(&mut self, input: u16, row: &Row) -> Result<(), AllocError>
         requires within { input < length self.old.lists }
         requires fits { Fits self.old.spec (with_row self.old.lists input row.now) }
         ensures ok { OnOk result (self.new
             ≡ with_lists (λ lists. with_row lists input row.now) self.old) }
         ensures err { OnErr result (self.new ≡ self.old) }
     {
-        let row = row.copy(alloc)?;
+        let row = row.copy()?;
         push_to(&mut self.lists, usize::from(input), row)
     }
 
     /// Empties the lists of those inputs that are not to be kept.
     pub fn renew(&mut self, keep: &[bool])
-        ensures { self.new ≡ with_lists (kept keep.now) self.old }
+        ensures { self.new ≡ with_lists (kept_lists keep.now) self.old }
     {
         fewer_rows_law();
         empty_others(&mut self.lists, keep);
@@ -141,7 +141,7 @@ fn push_to(lists: &mut Vec<Vec<Row>>, input: usize, row: Row) -> Result<(), Allo
 /// Empties the lists that are not to be kept.
 fn empty_others(lists: &mut Vec<Vec<Row>>, keep: &[bool])
     ensures { map (λ rows. rows.items) lists.new.items
-        ≡ kept keep.now (map (λ rows. rows.items) lists.old.items) }
+        ≡ kept_lists keep.now (map (λ rows. rows.items) lists.old.items) }
 {
     let count = keep.len().min(lists.len());
     for input in 0..count {
@@ -152,7 +152,7 @@ fn empty_others(lists: &mut Vec<Vec<Row>>, keep: &[bool])
 }
 
 /// The one value of a scalar's rows.
-fn scalar_of(alloc: Global, rows: &[Row]) -> Result<Option<Value>, AllocError>
+fn scalar_of(rows: &[Row]) -> Result<Option<Value>, AllocError>
     ensures { IfOk result (λ found. found ≡ scalar_in rows.now) }
 {
     let [row] = rows else {
@@ -161,7 +161,7 @@ fn scalar_of(alloc: Global, rows: &[Row]) -> Result<Option<Value>, AllocError>
     let [value] = row.values() else {
         return Ok(None);
     };
-    Ok(Some(value.copy(alloc)?))
+    Ok(Some(value.copy()?))
 }
 
 /// The one value of each of these scalars.
@@ -171,7 +171,7 @@ fn all_captured(alloc: Global, scalars: &[Vec<Row>]) -> Result<Option<Vec<Value>
 {
     let mut values = Vec::new(alloc);
     for rows in scalars {
-        let Some(value) = scalar_of(alloc, rows)? else {
+        let Some(value) = scalar_of(rows)? else {
             return Ok(None);
         };
         values.push(value)?;

@@ -20,7 +20,7 @@ use Rattle.mit_ops.specs.declared.types.VarType.{VarType}
 use Rattle.mit_script.specs.Accepted.{Known, bag_types, captured_args, type_or_unset, is_assigned, judged, type_of, typed_by, typed_or_code}
 use Rattle.mit_script.specs.Trees.{AreArgs}
 use Rattle.mit_script.specs.declared.typed.CheckCode.TheVariants.{NotScalar, TooLarge, Unassigned}
-use Rattle.mit_step.specs.Typing.{Argued, HasType, Holds, IsMade, IsValue, bag_in, inputs_in}
+use Rattle.mit_step.specs.Typing.{Argued, HasType, IsMade, IsValue, StoreHolds, inputs_in, stored_bag}
 
 -- ---- what was judged
 
@@ -51,10 +51,10 @@ all_parts p count args is =
 -- ---- the bags of arguments
 
 -- the bag of an assigned variable has the type that is known
-held_type : {types : List VarType} {known : Known} {store : List BagOf} → Holds types known store → (variable : ℕ) → is_assigned known.assigned variable ≡ true
-    → HasType (type_of known variable) (bag_in store variable)
+held_type : {types : List VarType} {known : Known} {store : List BagOf} → StoreHolds types known store → (variable : ℕ) → is_assigned known.assigned variable ≡ true
+    → HasType (type_of known variable) (stored_bag store variable)
 held_type {store = store} holds variable is =
-    subst (λ found. HasType (type_or_unset found) (bag_in store variable)) (sym (holds.typed variable is)) (holds.held variable is)
+    subst (λ found. HasType (type_or_unset found) (stored_bag store variable)) (sym (holds.typed variable is)) (holds.held variable is)
 
 -- a row of one column is one value
 one_in_row : (row : RowOf) (cols : List ColType) → length cols ≡ 1 → map type_of_value row ≡ cols → (value : Value) × (row ≡ value ∷ [])
@@ -71,7 +71,7 @@ one_value cols (row ∷ []) long have one =
     let it = one_in_row row cols long (All-head (λ r. map type_of_value r ≡ cols) row [] have) in (it.0, ap (λ r. r ∷ []) it.1)
 one_value cols (row ∷ other ∷ bag) long have one = absurd (omega (arith, one))
 
-module _ {types : List VarType} {known : Known} {store : List BagOf} (holds : Holds types known store) where
+module _ {types : List VarType} {known : Known} {store : List BagOf} (holds : StoreHolds types known store) where
   bags_wide : (vs : List ℕ) → list_all (is_assigned known.assigned) vs ≡ true → AreBags (map (type_of known) vs)
   bags_wide [] is = All-nil IsBagType
   bags_wide (v ∷ vs) is =
@@ -96,7 +96,7 @@ module _ {types : List VarType} {known : Known} {store : List BagOf} (holds : Ho
   scalars_one (v ∷ vs) is scalar =
       let parts = and_parts (is_assigned known.assigned v) (list_all (is_assigned known.assigned) vs) is in
       let scalars = and_parts (type_of known v).scalar (list_all (λ variable. (type_of known variable).scalar) vs) scalar in
-      All-cons (λ rows. length rows ≡ 1) (bag_in store v) (inputs_in store vs) ((held_type holds v parts.0).one scalars.0) (scalars_one vs parts.1 scalars.1)
+      All-cons (λ rows. length rows ≡ 1) (stored_bag store v) (inputs_in store vs) ((held_type holds v parts.0).one scalars.0) (scalars_one vs parts.1 scalars.1)
 
   all_values : (vs : List ℕ) → list_all (is_assigned known.assigned) vs ≡ true → list_all (λ variable. (type_of known variable).scalar) vs ≡ true → All IsValue (inputs_in store vs)
   all_values [] is scalar = All-nil IsValue
@@ -104,7 +104,7 @@ module _ {types : List VarType} {known : Known} {store : List BagOf} (holds : Ho
       let parts = and_parts (is_assigned known.assigned v) (list_all (is_assigned known.assigned) vs) is in
       let scalars = and_parts (type_of known v).scalar (list_all (λ variable. (type_of known variable).scalar) vs) scalar in
       let it = held_type holds v parts.0 in
-      All-cons IsValue (bag_in store v) (inputs_in store vs) (one_value (type_of known v).cols (bag_in store v) (it.wide.1 scalars.0) it.columns (it.one scalars.0)) (all_values vs parts.1 scalars.1)
+      All-cons IsValue (stored_bag store v) (inputs_in store vs) (one_value (type_of known v).cols (stored_bag store v) (it.wide.1 scalars.0) it.columns (it.one scalars.0)) (all_values vs parts.1 scalars.1)
 
   captures_have : (vs : List ℕ) → list_all (is_assigned known.assigned) vs ≡ true → list_all (λ variable. (type_of known variable).scalar) vs ≡ true
       → AllZip HaveColumns (map (λ capture. capture ∷ []) (flat_map (λ variable. (type_of known variable).cols) vs)) (inputs_in store vs)
@@ -113,7 +113,7 @@ module _ {types : List VarType} {known : Known} {store : List BagOf} (holds : Ho
       let parts = and_parts (is_assigned known.assigned v) (list_all (is_assigned known.assigned) vs) is in
       let scalars = and_parts (type_of known v).scalar (list_all (λ variable. (type_of known variable).scalar) vs) scalar in
       let it = held_type holds v parts.0 in
-      single (type_of known v).cols (bag_in store v) (flat_map (λ variable. (type_of known variable).cols) vs) (inputs_in store vs) (it.wide.1 scalars.0) it.columns (captures_have vs parts.1 scalars.1)
+      single (type_of known v).cols (stored_bag store v) (flat_map (λ variable. (type_of known variable).cols) vs) (inputs_in store vs) (it.wide.1 scalars.0) it.columns (captures_have vs parts.1 scalars.1)
     where
       single : (cols : List ColType) (bag : BagOf) (more : List ColType) (bags : List BagOf) → length cols ≡ 1 → HaveColumns cols bag
           → AllZip HaveColumns (map (λ capture. capture ∷ []) more) bags → AllZip HaveColumns (map (λ capture. capture ∷ []) (cols ++ more)) (bag ∷ bags)
@@ -129,7 +129,7 @@ zip_both R (x ∷ xs) xs' (y ∷ ys) ys' one other = (one.0, zip_both R xs xs' y
 
 -- ---- an operator over its arguments
 
-op_fits : {types : List VarType} {known : Known} {store : List BagOf} (operator : OpSpec) (args : List ℕ) (type : VarType) → Holds types known store
+op_fits : {types : List VarType} {known : Known} {store : List BagOf} (operator : OpSpec) (args : List ℕ) (type : VarType) → StoreHolds types known store
     → judged known operator args ≡ Ok type → AreArgs (length store) operator args
     → FitsAs operator (bag_types known operator args) (flat_map (λ variable. (type_of known variable).cols) (captured_args operator args)) (inputs_in store args) type
 op_fits {known = known} {store = store} operator args type holds is are =
@@ -139,7 +139,7 @@ op_fits {known = known} {store = store} operator args type holds is are =
     let complete = are.complete in
     let long : length (take count args) ≡ count = omega (arith, complete, length-take count args) in
     let rows : inputs_in store (take count args) ++ inputs_in store (drop count args) ≡ inputs_in store args =
-    sym (map-append (bag_in store) (take count args) (drop count args)) ∙ ap (inputs_in store) (take-append-drop count args) in
+    sym (map-append (stored_bag store) (take count args) (drop count args)) ∙ ap (inputs_in store) (take-append-drop count args) in
     record {
       count = length-map (take count args) (type_of known) ∙ long;
       wide = bags_wide holds (take count args) assigned.0;
@@ -148,15 +148,15 @@ op_fits {known = known} {store = store} operator args type holds is are =
           (zip_both HaveColumns _ _ _ _ (bags_have holds (take count args) assigned.0) (captures_have holds (drop count args) assigned.1 parts.1));
     }
 
-op_ones : {types : List VarType} {known : Known} {store : List BagOf} (operator : OpSpec) (args : List ℕ) (type : VarType) → Holds types known store
+op_ones : {types : List VarType} {known : Known} {store : List BagOf} (operator : OpSpec) (args : List ℕ) (type : VarType) → StoreHolds types known store
     → judged known operator args ≡ Ok type → All (λ rows. length rows ≡ 1) (drop (bag_inputs_of operator) (inputs_in store args))
 op_ones {known = known} {store = store} operator args type holds is =
     let count = bag_inputs_of operator in
     let parts = judged_parts known operator args type is in
     let assigned = all_parts (is_assigned known.assigned) count args parts.0 in
-    subst (All (λ rows. length rows ≡ 1)) (sym (drop-map (bag_in store) count args)) (scalars_one holds (drop count args) assigned.1 parts.1)
+    subst (All (λ rows. length rows ≡ 1)) (sym (drop-map (stored_bag store) count args)) (scalars_one holds (drop count args) assigned.1 parts.1)
 
-pub op_argued : {types : List VarType} {known : Known} {store : List BagOf} (operator : OpSpec) (args : List ℕ) (type : VarType) → Holds types known store
+pub op_argued : {types : List VarType} {known : Known} {store : List BagOf} (operator : OpSpec) (args : List ℕ) (type : VarType) → StoreHolds types known store
     → judged known operator args ≡ Ok type → AreArgs (length store) operator args → Argued operator args store
 op_argued {known = known} operator args type holds is are =
     let complete = are.complete in
@@ -168,7 +168,7 @@ op_argued {known = known} operator args type holds is are =
           (judged_parts known operator args type is).1;
     }
 
-pub op_typed : {types : List VarType} {known : Known} {store : List BagOf} (operator : OpSpec) (args : List ℕ) (type : VarType) → Holds types known store
+pub op_typed : {types : List VarType} {known : Known} {store : List BagOf} (operator : OpSpec) (args : List ℕ) (type : VarType) → StoreHolds types known store
     → judged known operator args ≡ Ok type → AreArgs (length store) operator args → kind_of operator ≢ 14 → (bag : BagOf) → IsMade operator (inputs_in store args) bag → HasType type bag
 op_typed {known = known} {store = store} operator args type holds is are other bag made =
     let bags = bag_types known operator args in
@@ -176,7 +176,7 @@ op_typed {known = known} {store = store} operator args type holds is are other b
     let fits = op_fits operator args type holds is are in
     let assigned = all_parts (is_assigned known.assigned) (bag_inputs_of operator) args (judged_parts known operator args type is).0 in
     let stand : AllZip (StandsIn 0) bags (bags_in operator (inputs_in store args)) =
-    subst (AllZip (StandsIn 0) bags) (sym (take-map (bag_in store) (bag_inputs_of operator) args)) (bags_stand holds (take (bag_inputs_of operator) args) assigned.0) in
+    subst (AllZip (StandsIn 0) bags) (sym (take-map (stored_bag store) (bag_inputs_of operator) args)) (bags_stand holds (take (bag_inputs_of operator) args) assigned.0) in
     record {
       wide = made.wide bags captures type fits.wide fits.typed;
       columns = made.columns bags captures type fits other;

@@ -15,7 +15,7 @@ use Rattle.mit_script.specs.Trees.{IsFormed}
 use Rattle.mit_script.specs.declared.tree.Script.{Script}
 use Rattle.mit_step.specs.Running.{Faults}
 use Rattle.mit_step.specs.Stepping.{EndsAs}
-use Rattle.mit_step.specs.Typing.{IsReady, Settles, type_at}
+use Rattle.mit_step.specs.Typing.{IsReady, Settles, variable_type}
 
 pub ends_at_fault : (ended : Ended) (why : Stop ScriptFault) → Faults ended why → EndsAs (ending_of ended) (Err why)
 ends_at_fault (goes_on state) (stop.Fault fault) is = cc
@@ -31,7 +31,7 @@ settled last variable =
     by_first (first_type last variable)
     (ap (λ list. list) (get_or-map type_or_unset last.types variable None) ∙ ap type_or_unset (sym (unwrap_or-slice_get last.types variable None)))
   where
-    by_first : (first : Option VarType) → type_at (map type_or_unset last.types) variable ≡ type_or_unset first → IfSome first (λ type. type_at (map type_or_unset last.types) variable ≡ type)
+    by_first : (first : Option VarType) → variable_type (map type_or_unset last.types) variable ≡ type_or_unset first → IfSome first (λ type. variable_type (map type_or_unset last.types) variable ≡ type)
     by_first None is = tt
     by_first (Some type) is = is
 

@@ -5,7 +5,7 @@ use Rattle.std.proofs.lemmas.List.{length-set}
 use Rattle.std.proofs.lemmas.Option.{unwrap_or-slice_get}
 use Rattle.mit_ops.specs.declared.kinds.OpSpec.{OpSpec}
 use Rattle.mit_ops.specs.declared.types.VarType.{VarType}
-use Rattle.mit_script.specs.Accepted.{Check, Known, and_then, assigned_by, assigning, assigned_in_both, branched, check_of, check_step, decided_by, fault_at, fault_or, first_type, in_order, is_assigned, is_condition, is_kept, judged, looped, passed, rejoined, with_assigned, written_by}
+use Rattle.mit_script.specs.Accepted.{Check, Known, and_then, assigned_by, assigning, assigned_in_both, branched, check_of, check_step, decided_by, fault_here, fault_or, first_type, in_order, is_assigned, is_condition, is_kept, judged, looped, passed, rejoined, with_assigned, written_by}
 use Rattle.mit_script.specs.declared.typed.CheckCode.{CheckCode}
 use Rattle.mit_script.specs.declared.typed.CheckCode.TheVariants.{WrongType}
 use Rattle.mit_script.specs.declared.tree.Stmt.{Stmt}
@@ -158,8 +158,8 @@ pub record Decided (op : OpSpec) (args : List ℕ) (known inside : Known) : Type
 
 pub decided_parts : (op : OpSpec) (args : List ℕ) (known inside : Known) → decided_by op args known ≡ Ok inside → Decided op args known inside
 decided_parts op args known inside is =
-    let one = passes (fault_or known (judged known op args)) (λ type. if is_condition type then Ok (passed known) else Err (fault_at known WrongType)) inside is in
-    let test = if_holds (is_condition one.0) (passed known) inside (fault_at known WrongType) one.2 in
+    let one = passes (fault_or known (judged known op args)) (λ type. if is_condition type then Ok (passed known) else Err (fault_here known WrongType)) inside is in
+    let test = if_holds (is_condition one.0) (passed known) inside (fault_here known WrongType) one.2 in
     record { type = one.0; judged = no_fault known (judged known op args) one.0 one.1; condition = test.0; is = test.1 }
 
 pub record Assigned (target : ℕ) (op : OpSpec) (args : List ℕ) (known after : Known) : Type 0 where
@@ -170,8 +170,8 @@ pub record Assigned (target : ℕ) (op : OpSpec) (args : List ℕ) (known after 
 
 pub assigned_parts : (target : ℕ) (op : OpSpec) (args : List ℕ) (known after : Known) → assigned_by target op args known ≡ Ok after → Assigned target op args known after
 assigned_parts target op args known after is =
-    let one = passes (fault_or known (judged known op args)) (λ type. if is_kept (first_type known target) type then Ok (assigning target type known) else Err (fault_at known WrongType)) after is in
-    let test = if_holds (is_kept (first_type known target) one.0) (assigning target one.0 known) after (fault_at known WrongType) one.2 in
+    let one = passes (fault_or known (judged known op args)) (λ type. if is_kept (first_type known target) type then Ok (assigning target type known) else Err (fault_here known WrongType)) after is in
+    let test = if_holds (is_kept (first_type known target) one.0) (assigning target one.0 known) after (fault_here known WrongType) one.2 in
     record { type = one.0; judged = no_fault known (judged known op args) one.0 one.1; kept = test.0; is = test.1 }
 
 pub record Written (op : OpSpec) (args : List ℕ) (known after : Known) : Type 0 where

@@ -1,9 +1,4 @@
-pub mod Firsts
-pub mod Groups
-pub mod Joins
-pub mod Keys
 pub mod Orders
-pub mod Reductions
 pub mod Sums
 pub mod Wholes
 pub mod Arguments

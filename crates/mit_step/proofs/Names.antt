@@ -17,8 +17,8 @@ use Rattle.mit_ops.specs.declared.faults.FaultKind.{FaultKind}
 use Rattle.mit_ops.specs.declared.kinds.OpSpec.{OpSpec}
 use Rattle.mit_ops.specs.declared.kinds.OpSpec.TheVariants as op
 use Rattle.mit_step.specs.Running.{StopsAs}
-use Rattle.mit_step.specs.Stepping.{inputs_of}
-use Rattle.mit_step.specs.Typing.{IsValue, bag_in, inputs_in}
+use Rattle.mit_step.specs.Stepping.{with_captures}
+use Rattle.mit_step.specs.Typing.{IsValue, inputs_in, stored_bag}
 use Rattle.mit_step.proofs.Wholes.{captures_are, whole_as}
 
 -- a write's arguments are its bag's and then the captured ones
@@ -41,11 +41,11 @@ write_values operator name store args is long values =
 
 module _ (operator : OpSpec) (name : Expr) (store : List BagOf) (args : List ℕ) (values : List Value) (is : operator ≡ op.Write name) (long : 1 ≤ length args)
     (same : map (λ value. (value ∷ []) ∷ []) values ≡ inputs_in store (take (length args - 1) (drop 1 args))) where
-  inputs_are : inputs_in store args ≡ inputs_of (bag_in store (get_or args 0 0) ∷ []) values
-  inputs_are = ap (inputs_in store) (first_args args long) ∙ ap (λ rest. bag_in store (get_or args 0 0) ∷ rest) (sym same)
+  inputs_are : inputs_in store args ≡ with_captures (stored_bag store (get_or args 0 0) ∷ []) values
+  inputs_are = ap (inputs_in store) (first_args args long) ∙ ap (λ rest. stored_bag store (get_or args 0 0) ∷ rest) (sym same)
 
   pub write_captures : captures_among (op.Write name) (inputs_in store args) ≡ Some values
-  write_captures = ap (captures_among (op.Write name)) inputs_are ∙ captures_are (op.Write name) (bag_in store (get_or args 0 0) ∷ []) values refl
+  write_captures = ap (captures_among (op.Write name)) inputs_are ∙ captures_are (op.Write name) (stored_bag store (get_or args 0 0) ∷ []) values refl
 
   pub write_name : {E : Type 0} (result : Result (List ℕ) E) → IfOk result (λ text. legal_in (value_in [] values name) ≡ Some text)
       → IfOk result (λ text. name_written operator (inputs_in store args) ≡ Some text)
@@ -54,12 +54,12 @@ module _ (operator : OpSpec) (name : Expr) (store : List BagOf) (args : List ℕ
       ∙ ap (option_and_then (λ captures. legal_in (value_in [] captures name))) write_captures ∙ legal
   write_name (Err why) legal = tt
 
-  pub write_whole : {A : Type 0} (result : Result A (Stop FaultKind)) (files : FileMap) → IsBag (bag_in store (get_or args 0 0))
-      → MatchResult result (λ _. given (value_in [] values name) (written (bag_in store (get_or args 0 0))) ≡ Ok (bag_in store (get_or args 0 0)))
-      (StopsAs (at_row [] (given (value_in [] values name) (written (bag_in store (get_or args 0 0))))))
-      → MatchResult result (λ _. whole operator (inputs_in store args) files ≡ Ok (bag_in store (get_or args 0 0))) (StopsAs (whole operator (inputs_in store args) files))
+  pub write_whole : {A : Type 0} (result : Result A (Stop FaultKind)) (files : FileMap) → IsBag (stored_bag store (get_or args 0 0))
+      → MatchResult result (λ _. given (value_in [] values name) (written (stored_bag store (get_or args 0 0))) ≡ Ok (stored_bag store (get_or args 0 0)))
+      (StopsAs (at_row [] (given (value_in [] values name) (written (stored_bag store (get_or args 0 0))))))
+      → MatchResult result (λ _. whole operator (inputs_in store args) files ≡ Ok (stored_bag store (get_or args 0 0))) (StopsAs (whole operator (inputs_in store args) files))
   write_whole result files sorted =
-      let rows = bag_in store (get_or args 0 0) in
+      let rows = stored_bag store (get_or args 0 0) in
       written_whole result (given (value_in [] values name) (written rows)) (whole operator (inputs_in store args) files) rows sorted
       (ap (λ (kind : OpSpec). whole kind (inputs_in store args) files) is
       ∙ ap (λ (inputs : List BagOf). whole (op.Write name) inputs files) inputs_are ∙ whole_as (op.Write name) (rows ∷ []) values refl files)

@@ -11,7 +11,7 @@ use Rattle.mit_world.specs.Files.{FileMap}
 use Rattle.mit_ops.specs.Operators.{whole}
 use Rattle.mit_ops.specs.Parts.{Fits, SameBags}
 use Rattle.mit_ops.specs.declared.kinds.OpSpec.{OpSpec}
-use Rattle.mit_step.specs.Stepping.{GivesWhole, inputs_of}
+use Rattle.mit_step.specs.Stepping.{GivesWhole, with_captures}
 use Rattle.mit_step.specs.declared.whole.WholeStop.{WholeStop}
 use Rattle.mit_step.proofs.Wholes.{gives_same}
 
@@ -55,26 +55,26 @@ themselves : (lists : List (List RowOf)) → AllZip Among lists lists
 themselves [] = tt
 themselves (rows ∷ lists) = (All-contains_itself rows, themselves lists)
 
-all_contained : Moves → (lists : List (List RowOf)) (captures : List Value) → AllZip Among (inputs_of lists captures) (inputs_of (map bag_of lists) captures)
-all_contained moves [] captures = themselves (inputs_of [] captures)
+all_contained : Moves → (lists : List (List RowOf)) (captures : List Value) → AllZip Among (with_captures lists captures) (with_captures (map bag_of lists) captures)
+all_contained moves [] captures = themselves (with_captures [] captures)
 all_contained moves (rows ∷ lists) captures = (contained moves rows, all_contained moves lists captures)
 
-same_bags : Sorted → (lists : List (List RowOf)) (captures : List Value) → SameBags (inputs_of lists captures) (inputs_of (map bag_of lists) captures)
+same_bags : Sorted → (lists : List (List RowOf)) (captures : List Value) → SameBags (with_captures lists captures) (with_captures (map bag_of lists) captures)
 same_bags sorted [] captures = refl
 same_bags sorted (rows ∷ lists) captures = λ i. sorted rows i ∷ same_bags sorted lists captures i
 
 pub fits_loose : Moves → Fewer → (spec : OpSpec) (lists : List (List RowOf)) (bags : List BagOf) (captures : List Value) → map bag_of lists ≡ bags
-    → Fits spec (inputs_of bags captures) → Fits spec (inputs_of lists captures)
+    → Fits spec (with_captures bags captures) → Fits spec (with_captures lists captures)
 fits_loose moves fewer spec lists bags captures are fits =
-    fewer spec (inputs_of (map bag_of lists) captures) (inputs_of lists captures)
-    (subst (λ (found : List BagOf). Fits spec (inputs_of found captures)) (sym are) fits) (all_contained moves lists captures)
+    fewer spec (with_captures (map bag_of lists) captures) (with_captures lists captures)
+    (subst (λ (found : List BagOf). Fits spec (with_captures found captures)) (sym are) fits) (all_contained moves lists captures)
 
 pub gives_loose : Sorted → Order → (spec : OpSpec) (lists : List (List RowOf)) (bags : List BagOf) (captures : List Value) (result : Result BagOf WholeStop) → map bag_of lists ≡ bags
-    → GivesWhole (whole spec (inputs_of lists captures) fin.empty) result → GivesWhole (whole spec (inputs_of bags captures) fin.empty) result
+    → GivesWhole (whole spec (with_captures lists captures) fin.empty) result → GivesWhole (whole spec (with_captures bags captures) fin.empty) result
 gives_loose sorted order spec lists bags captures result are gives =
-    gives_same (whole spec (inputs_of bags captures) fin.empty) (whole spec (inputs_of lists captures) fin.empty) result
-    (ap (λ (found : List BagOf). whole spec (inputs_of found captures) fin.empty) (sym are)
-    ∙ sym (order spec (inputs_of lists captures) (inputs_of (map bag_of lists) captures) fin.empty (same_bags sorted lists captures))) gives
+    gives_same (whole spec (with_captures bags captures) fin.empty) (whole spec (with_captures lists captures) fin.empty) result
+    (ap (λ (found : List BagOf). whole spec (with_captures found captures) fin.empty) (sym are)
+    ∙ sym (order spec (with_captures lists captures) (with_captures (map bag_of lists) captures) fin.empty (same_bags sorted lists captures))) gives
 
 -- the rows of two bags
 pub two_bags : (left right : List RowOf) → all_rows (left ∷ right ∷ []) ≡ left ++ right

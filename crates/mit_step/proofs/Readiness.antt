@@ -24,7 +24,7 @@ use Rattle.mit_script.specs.declared.tree.Stmt.TheOpen as layer
 use Rattle.mit_script.specs.declared.tree.Stmt.TheVariants as stmt
 use Rattle.mit_step.proofs.Arguments.{op_argued, op_typed}
 use Rattle.mit_step.proofs.Growing.{Grows, assigned_parts, assigning_grows, block_grows, branched_parts, check_grows, check_of-Assign, check_of-If, check_of-While, check_of-Write, looped_parts, of_both, passed_grows, passes, same_ok, written_parts}
-use Rattle.mit_step.specs.Typing.{Argued, HasType, Holds, IsMade, Ready, Settles, bag_in, inputs_in, type_at}
+use Rattle.mit_step.specs.Typing.{Argued, HasType, IsMade, Ready, Settles, StoreHolds, inputs_in, stored_bag, variable_type}
 
 -- ---- the heads of a statement and of those inside it
 
@@ -103,16 +103,16 @@ settles_before : (types : List VarType) (known after : Known)
     → ((variable : ℕ) (type : VarType) → first_type known variable ≡ Some type → first_type after variable ≡ Some type) → Settles types after → Settles types known
 settles_before types known after kept settles variable = by_first (first_type known variable) refl
   where
-    by_first : (first : Option VarType) → first_type known variable ≡ first → IfSome first (λ type. type_at types variable ≡ type)
+    by_first : (first : Option VarType) → first_type known variable ≡ first → IfSome first (λ type. variable_type types variable ≡ type)
     by_first None is = tt
-    by_first (Some type) is = subst (λ found. IfSome found (λ t. type_at types variable ≡ t)) (kept variable type is) (settles variable)
+    by_first (Some type) is = subst (λ found. IfSome found (λ t. variable_type types variable ≡ t)) (kept variable type is) (settles variable)
 
 -- a bag that stays is held, where all that is assigned now was assigned with its type before
-holds_after : (types : List VarType) (known after : Known) (store : List BagOf) → Holds types known store
+holds_after : (types : List VarType) (known after : Known) (store : List BagOf) → StoreHolds types known store
     → ((variable : ℕ) → is_assigned after.assigned variable ≡ true → is_assigned known.assigned variable ≡ true)
-    → ((variable : ℕ) (type : VarType) → first_type known variable ≡ Some type → first_type after variable ≡ Some type) → Holds types after store
+    → ((variable : ℕ) (type : VarType) → first_type known variable ≡ Some type → first_type after variable ≡ Some type) → StoreHolds types after store
 holds_after types known after store holds fewer kept = record {
-  typed = λ variable is. kept variable (type_at types variable) (holds.typed variable (fewer variable is));
+  typed = λ variable is. kept variable (variable_type types variable) (holds.typed variable (fewer variable is));
   held = λ variable is. holds.held variable (fewer variable is);
 }
 
@@ -141,8 +141,8 @@ assigned_type known target type there kept = by_first (first_type known target) 
 
 -- an assigned variable holds the bag
 assigned_holds : (types : List VarType) (known : Known) (store : List BagOf) (target : ℕ) (type : VarType) (bag : BagOf) → length known.types ≡ length store → target < length store
-    → is_kept (first_type known target) type ≡ true → Settles types (assigning target type known) → Holds types known store → HasType type bag
-    → Holds types (assigning target type known) (set store target bag)
+    → is_kept (first_type known target) type ≡ true → Settles types (assigning target type known) → StoreHolds types known store → HasType type bag
+    → StoreHolds types (assigning target type known) (set store target bag)
 assigned_holds types known store target type bag sized there kept settles holds typed = record {
   typed = λ variable is. by_typed variable is (variable == target) refl;
   held = λ variable is. by_held variable is (variable == target) refl;
@@ -151,8 +151,8 @@ assigned_holds types known store target type bag sized there kept settles holds 
     first : first_type (assigning target type known) target ≡ Some type
     first = assigned_type known target type (omega (arith, sized, there)) kept
 
-    settled : type_at types target ≡ type
-    settled = subst (λ found. IfSome found (λ t. type_at types target ≡ t)) first (settles target)
+    settled : variable_type types target ≡ type
+    settled = subst (λ found. IfSome found (λ t. variable_type types target ≡ t)) first (settles target)
 
     before : (variable : ℕ) → variable ≢ target → is_assigned (set known.assigned target true) variable ≡ true → is_assigned known.assigned variable ≡ true
     before variable other is =
@@ -160,19 +160,19 @@ assigned_holds types known store target type bag sized there kept settles holds 
         ∙ (sym (unwrap_or-slice_get (set known.assigned target true) variable false) ∙ is))
 
     by_typed : (variable : ℕ) → is_assigned (set known.assigned target true) variable ≡ true → (same : Bool) → (variable == target) ≡ same
-        → first_type (assigning target type known) variable ≡ Some (type_at types variable)
+        → first_type (assigning target type known) variable ≡ Some (variable_type types variable)
     by_typed variable is true same =
         let it = eqb-true variable target same in rw it (first ∙ ap Some (sym settled))
     by_typed variable is false same =
-        (assigning_grows target type known).types variable (type_at types variable)
+        (assigning_grows target type known).types variable (variable_type types variable)
         (holds.typed variable (before variable (λ it. eqb-false variable target same it) is))
 
     by_held : (variable : ℕ) → is_assigned (set known.assigned target true) variable ≡ true → (same : Bool) → (variable == target) ≡ same
-        → HasType (type_at types variable) (bag_in (set store target bag) variable)
+        → HasType (variable_type types variable) (stored_bag (set store target bag) variable)
     by_held variable is true same =
         let it = eqb-true variable target same in
-        let bag_is : bag_in (set store target bag) variable ≡ bag = get_or-set_at store target variable bag [] it there in
-        let type_is : type_at types variable ≡ type = ap (type_at types) it ∙ settled in
+        let bag_is : stored_bag (set store target bag) variable ≡ bag = get_or-set_at store target variable bag [] it there in
+        let type_is : variable_type types variable ≡ type = ap (variable_type types) it ∙ settled in
         rw (bag_is, type_is) typed
     by_held variable is false same =
         let other : variable ≢ target = λ it. eqb-false variable target same it in
@@ -181,7 +181,7 @@ assigned_holds types known store target type bag sized there kept settles holds 
 pub record AfterFirst (types : List VarType) (known after : Known) (first : Stmt) (more : List Stmt) (store : List BagOf) : Type 0 where
   pub mid : Known
   pub one : Ready types known mid (first ∷ []) store
-  pub rest : (store' : List BagOf) → length store' ≡ length store → Holds types mid store' → Ready types mid after more store'
+  pub rest : (store' : List BagOf) → length store' ≡ length store → StoreHolds types mid store' → Ready types mid after more store'
 
 pub ready_first : {types : List VarType} {known after : Known} {first : Stmt} {more : List Stmt} {store : List BagOf} → Ready types known after (first ∷ more) store
     → AfterFirst types known after first more store
@@ -210,14 +210,14 @@ ready_first {types} {known} {after} {first} {more} {store} ready =
       };
     }
 
-pub ready_none : {types : List VarType} {known after : Known} {store : List BagOf} → Ready types known after [] store → Holds types after store
-ready_none {types} {known} {after} {store} ready = subst (λ k. Holds types k store) (same_ok known after ready.checked) ready.holds
+pub ready_none : {types : List VarType} {known after : Known} {store : List BagOf} → Ready types known after [] store → StoreHolds types after store
+ready_none {types} {known} {after} {store} ready = subst (λ k. StoreHolds types k store) (same_ok known after ready.checked) ready.holds
 
 pub record Assigns (types : List VarType) (after : Known) (target : ℕ) (op : OpSpec) (args : List ℕ) (store : List BagOf) : Type 0 where
   pub there : target < length store
   pub other : is_write op ≡ false
   pub argued : Argued op args store
-  pub holds : (bag : BagOf) → IsMade op (inputs_in store args) bag → Holds types after (set store target bag)
+  pub holds : (bag : BagOf) → IsMade op (inputs_in store args) bag → StoreHolds types after (set store target bag)
 
 pub ready_assign : {types : List VarType} {known after : Known} {store : List BagOf} (target : ℕ) (op : OpSpec) (args : List ℕ) → Ready types known after (stmt.Assign target op args ∷ []) store
     → Assigns types after target op args store
@@ -230,7 +230,7 @@ ready_assign {types} {known} {after} {store} target op args ready =
       there = head.0;
       other = head.1;
       argued = op_argued op args check.type ready.holds check.judged head.2;
-      holds = λ bag made. subst (λ k. Holds types k (set store target bag)) check.is
+      holds = λ bag made. subst (λ k. StoreHolds types k (set store target bag)) check.is
           (assigned_holds types known store target check.type bag ready.typed head.0 check.kept settles ready.holds
           (op_typed op args check.type ready.holds check.judged head.2 (not_fourteen op head.1) bag made));
     }
@@ -238,7 +238,7 @@ ready_assign {types} {known} {after} {store} target op args ready =
 pub record Writes (types : List VarType) (after : Known) (op : OpSpec) (args : List ℕ) (store : List BagOf) : Type 0 where
   pub write : is_write op ≡ true
   pub argued : Argued op args store
-  pub holds : Holds types after store
+  pub holds : StoreHolds types after store
 
 pub ready_write : {types : List VarType} {known after : Known} {store : List BagOf} (op : OpSpec) (args : List ℕ) → Ready types known after (stmt.Write op args ∷ []) store
     → Writes types after op args store
@@ -249,7 +249,7 @@ ready_write {types} {known} {after} {store} op args ready =
     record {
       write = head.0;
       argued = op_argued op args check.type ready.holds check.judged head.1;
-      holds = subst (λ k. Holds types k store) check.is (holds_after types known (passed known) store ready.holds (λ variable is. is) (λ variable type is. is));
+      holds = subst (λ k. StoreHolds types k store) check.is (holds_after types known (passed known) store ready.holds (λ variable is. is) (λ variable type is. is));
     }
 
 pub record Branches (types : List VarType) (after : Known) (op : OpSpec) (args : List ℕ) (on_true on_false : List Stmt) (store : List BagOf) : Type 0 where
@@ -260,8 +260,8 @@ pub record Branches (types : List VarType) (after : Known) (op : OpSpec) (args :
   pub two : Known
   pub yes : Ready types inside one on_true store
   pub no : Ready types (with_assigned inside.assigned one) two on_false store
-  pub after_yes : (store' : List BagOf) → Holds types one store' → Holds types after store'
-  pub after_no : (store' : List BagOf) → Holds types two store' → Holds types after store'
+  pub after_yes : (store' : List BagOf) → StoreHolds types one store' → StoreHolds types after store'
+  pub after_no : (store' : List BagOf) → StoreHolds types two store' → StoreHolds types after store'
 
 pub ready_if : {types : List VarType} {known after : Known} {store : List BagOf} (op : OpSpec) (args : List ℕ) (on_true on_false : List Stmt)
     → Ready types known after (stmt.If op args on_true on_false ∷ []) store → Branches types after op args on_true on_false store
@@ -275,7 +275,7 @@ ready_if {types} {known} {after} {store} op args on_true on_false ready =
     let one = block_grows on_true check.inside check.one check.yes in
     let two = block_grows on_false (with_assigned check.inside.assigned check.one) check.other check.no in
     let settles : Settles types check.other = subst (Settles types) (sym check.is) ready.settles in
-    let within : Holds types check.inside store = subst (λ k. Holds types k store) check.decided.is (holds_after types known (passed known) store ready.holds (λ variable is. is) (λ variable type is. is)) in
+    let within : StoreHolds types check.inside store = subst (λ k. StoreHolds types k store) check.decided.is (holds_after types known (passed known) store ready.holds (λ variable is. is) (λ variable type is. is)) in
     record {
       other = no_write op head.0;
       argued = op_argued op args check.decided.type ready.holds check.decided.judged head.1;
@@ -298,10 +298,10 @@ ready_if {types} {known} {after} {store} op args on_true on_false ready =
         typed = one.typed ∙ (inside.typed ∙ ready.typed);
         holds = holds_after types check.inside (with_assigned check.inside.assigned check.one) store within (λ variable is. is) one.types;
       };
-      after_yes = λ store' holds. subst (λ k. Holds types k store') check.is
+      after_yes = λ store' holds. subst (λ k. StoreHolds types k store') check.is
           (holds_after types check.one (with_assigned (assigned_in_both check.one.assigned check.other.assigned) check.other) store' holds
           (λ variable is. (of_both check.one.assigned check.other.assigned variable is).0) two.types);
-      after_no = λ store' holds. subst (λ k. Holds types k store') check.is
+      after_no = λ store' holds. subst (λ k. StoreHolds types k store') check.is
           (holds_after types check.other (with_assigned (assigned_in_both check.one.assigned check.other.assigned) check.other) store' holds
           (λ variable is. (of_both check.one.assigned check.other.assigned variable is).1) (λ variable type is. is));
     }
@@ -312,8 +312,8 @@ pub record Loops (types : List VarType) (known after : Known) (op : OpSpec) (arg
   pub inside : Known
   pub last : Known
   pub body : Ready types inside last block store
-  pub again : (store' : List BagOf) → length store' ≡ length store → Holds types last store' → Ready types known after (stmt.While op args block ∷ []) store'
-  pub holds : Holds types after store
+  pub again : (store' : List BagOf) → length store' ≡ length store → StoreHolds types last store' → Ready types known after (stmt.While op args block ∷ []) store'
+  pub holds : StoreHolds types after store
 
 pub ready_while : {types : List VarType} {known after : Known} {store : List BagOf} (op : OpSpec) (args : List ℕ) (body : List Stmt)
     → Ready types known after (stmt.While op args body ∷ []) store → Loops types known after op args body store
@@ -326,7 +326,7 @@ ready_while {types} {known} {after} {store} op args body ready =
     let inside = subst (Grows known) check.decided.is (passed_grows known) in
     let last = block_grows body check.inside check.last check.block in
     let settles : Settles types check.last = subst (Settles types) (sym check.is) ready.settles in
-    let within : Holds types check.inside store = subst (λ k. Holds types k store) check.decided.is (holds_after types known (passed known) store ready.holds (λ variable is. is) (λ variable type is. is)) in
+    let within : StoreHolds types check.inside store = subst (λ k. StoreHolds types k store) check.decided.is (holds_after types known (passed known) store ready.holds (λ variable is. is) (λ variable type is. is)) in
     record {
       other = no_write op head.0;
       argued = op_argued op args check.decided.type ready.holds check.decided.judged head.1;
@@ -351,6 +351,6 @@ ready_while {types} {known} {after} {store} op args body ready =
           held = λ variable is. holds.held variable (last.assigned variable (inside.assigned variable is));
         };
       };
-      holds = subst (λ k. Holds types k store) check.is
+      holds = subst (λ k. StoreHolds types k store) check.is
           (holds_after types check.inside (with_assigned check.inside.assigned check.last) store within (λ variable is. is) last.types);
     }

@@ -15,7 +15,7 @@ use Rattle.mit_ops.specs.Operators.{captured, captures_among, form_of, if_captur
 use Rattle.mit_ops.specs.Parts.{Fits}
 use Rattle.mit_ops.specs.Results.{and_types}
 use Rattle.mit_ops.specs.declared.kinds.OpSpec.{OpSpec}
-use Rattle.mit_step.specs.Stepping.{GivesWhole, inputs_of}
+use Rattle.mit_step.specs.Stepping.{GivesWhole, with_captures}
 use Rattle.mit_step.specs.declared.whole.WholeStop.{WholeStop}
 
 -- ---- bags first, then the captured values
@@ -34,15 +34,15 @@ captured_values [] = refl
 captured_values (value ∷ captures) = rw (captured_values captures) refl
 
 module _ (spec : OpSpec) (bags : List BagOf) (captures : List Value) (count : length bags ≡ bag_inputs_of spec) where
-  pub captures_are : captures_among spec (inputs_of bags captures) ≡ Some captures
+  pub captures_are : captures_among spec (with_captures bags captures) ≡ Some captures
   captures_are =
-      ap (λ n. captured (drop n (inputs_of bags captures))) (sym count)
+      ap (λ n. captured (drop n (with_captures bags captures))) (sym count)
       ∙ ap captured (drop_all bags (map (λ value. (value ∷ []) ∷ []) captures)) ∙ captured_values captures
 
-  pub whole_as : (files : FileMap) → whole spec (inputs_of bags captures) files ≡ whole_answer (form_of spec files captures) bags
+  pub whole_as : (files : FileMap) → whole spec (with_captures bags captures) files ≡ whole_answer (form_of spec files captures) bags
   whole_as files =
-      ap (λ found. if_captured found (λ values. whole_answer (form_of spec files values) (take (bag_inputs_of spec) (inputs_of bags captures)))) captures_are
-      ∙ ap (λ n. whole_answer (form_of spec files captures) (take n (inputs_of bags captures))) (sym count)
+      ap (λ found. if_captured found (λ values. whole_answer (form_of spec files values) (take (bag_inputs_of spec) (with_captures bags captures)))) captures_are
+      ∙ ap (λ n. whole_answer (form_of spec files captures) (take n (with_captures bags captures))) (sym count)
       ∙ ap (whole_answer (form_of spec files captures)) (take_all bags (map (λ value. (value ∷ []) ∷ []) captures))
 
 pub gives_same : (answer other : BagOrFault) (result : Result BagOf WholeStop) → answer ≡ other → GivesWhole other result → GivesWhole answer result
@@ -51,10 +51,10 @@ gives_same answer other result e = subst (λ (a : BagOrFault). GivesWhole a resu
 -- what an operator gives is what its kind gives
 pub of_kind : (spec kind : OpSpec) (bags : List BagOf) (captures : List Value) (answer : BagOrFault) (result : Result BagOf WholeStop) → spec ≡ kind
     → length bags ≡ bag_inputs_of kind → answer ≡ whole_answer (form_of kind fin.empty captures) bags → GivesWhole answer result
-    → GivesWhole (whole spec (inputs_of bags captures) fin.empty) result
+    → GivesWhole (whole spec (with_captures bags captures) fin.empty) result
 of_kind spec kind bags captures answer result is count same =
-    gives_same (whole spec (inputs_of bags captures) fin.empty) answer result
-    (ap (λ (s : OpSpec). whole s (inputs_of bags captures) fin.empty) is ∙ whole_as kind bags captures count fin.empty ∙ sym same)
+    gives_same (whole spec (with_captures bags captures) fin.empty) answer result
+    (ap (λ (s : OpSpec). whole s (with_captures bags captures) fin.empty) is ∙ whole_as kind bags captures count fin.empty ∙ sym same)
 
 pub fits_as : (spec kind : OpSpec) (inputs : List BagOf) → spec ≡ kind → Fits spec inputs → Fits kind inputs
 fits_as spec kind inputs is = subst (λ (s : OpSpec). Fits s inputs) is

@@ -1,6 +1,4 @@
 pub mod Running
 pub mod Stepping
-pub mod Groups
-pub mod Indexes
-pub mod Firsts
+pub mod Gathered
 pub mod Typing

@@ -13,13 +13,13 @@ use Rattle.mit_ops.specs.EachRow.{kind_of_fault}
 use Rattle.mit_ops.specs.declared.faults.FaultKind.{FaultKind}
 use Rattle.mit_ops.specs.declared.faults.OpFault.{OpFault}
 use Rattle.mit_ops.specs.declared.faults.ScriptFault.{ScriptFault}
-use Rattle.mit_script.specs.Execution.{Ended, State, at_fault}
-use Rattle.mit_step.specs.Typing.{bag_in}
+use Rattle.mit_script.specs.Execution.{Ended, ScriptState, at_fault}
+use Rattle.mit_step.specs.Typing.{stored_bag}
 use Rattle.mit_step.specs.declared.run.Run.{Run}
 
 -- a run has the state's bags, its files are what was written, and it counts the same decisions
-pub record Stands (state : State) (run : Run) : Type 0 where
-  pub store : (variable : ℕ) → state.store variable ≡ bag_in run.store variable
+pub record Stands (state : ScriptState) (run : Run) : Type 0 where
+  pub store : (variable : ℕ) → state.store variable ≡ stored_bag run.store variable
   pub files : run.files ≡ published state.writes
   pub used : state.used ≡ run.decisions.used
   pub left : state.left ≡ run.decisions.left
@@ -55,9 +55,9 @@ Faults ended stop.Folder = ⊤
 Faults ended stop.NoMemory = ⊤
 
 -- the run stands for the state from which this goes on, or it is at fault
-abbrev pub Leaves : {A : Type 0} → Ended → (A → State → Ended) → Run → Result A (Stop ScriptFault) → Type 0
-Leaves ended next run (Ok value) = (state : State) × Stands state run × (ended ≡ next value state)
-Leaves ended next run (Err why) = Faults ended why
+abbrev pub LeavesRun : {A : Type 0} → Ended → (A → ScriptState → Ended) → Run → Result A (Stop ScriptFault) → Type 0
+LeavesRun ended next run (Ok value) = (state : ScriptState) × Stands state run × (ended ≡ next value state)
+LeavesRun ended next run (Err why) = Faults ended why
 
 -- a stop of the operator of the statement of this number, after so many decisions, as the script's
 abbrev pub stop_at : ℕ → ℕ → Stop FaultKind → Stop ScriptFault

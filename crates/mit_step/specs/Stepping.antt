@@ -13,8 +13,8 @@ use Rattle.mit_step.specs.declared.whole.WholeStop.{WholeStop}
 use Rattle.mit_step.specs.declared.whole.WholeStop.TheVariants as whole_stop
 
 -- the inputs of an operator: these bags, and then each captured value as a bag of one row
-abbrev pub inputs_of : List BagOf → List Value → List BagOf
-inputs_of bags captures = bags ++ map (λ value. (value ∷ []) ∷ []) captures
+abbrev pub with_captures : List BagOf → List Value → List BagOf
+with_captures bags captures = bags ++ map (λ value. (value ∷ []) ∷ []) captures
 
 -- exactly this answer; out of memory says nothing
 abbrev pub GivesWhole : BagOrFault → Result BagOf WholeStop → Type 0

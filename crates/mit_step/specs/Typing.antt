@@ -15,12 +15,12 @@ use Rattle.mit_script.specs.Trees.{IsFormedHead, heads_in}
 use Rattle.mit_script.specs.declared.tree.Stmt.{Stmt}
 
 -- the bag of a variable
-abbrev pub bag_in : List BagOf → ℕ → BagOf
-bag_in store variable = get_or store variable []
+abbrev pub stored_bag : List BagOf → ℕ → BagOf
+stored_bag store variable = get_or store variable []
 
 -- the bags of an operator's arguments
 abbrev pub inputs_in : List BagOf → List ℕ → List BagOf
-inputs_in store args = map (bag_in store) args
+inputs_in store args = map (stored_bag store) args
 
 -- one row of one value
 abbrev pub IsValue : BagOf → Type 0
@@ -46,17 +46,17 @@ pub record HasType (type : VarType) (bag : BagOf) : Type 0 where
   pub columns : HaveColumns type.cols bag
   pub one : IsTrue type.scalar → length bag ≡ 1
 
-abbrev pub type_at : List VarType → ℕ → VarType
-type_at types variable = get_or types variable unset
+abbrev pub variable_type : List VarType → ℕ → VarType
+variable_type types variable = get_or types variable unset
 
 -- each variable that is assigned has its type already, and a bag of it
-pub record Holds (types : List VarType) (known : Known) (store : List BagOf) : Type 0 where
-  pub typed : (variable : ℕ) → is_assigned known.assigned variable ≡ true → first_type known variable ≡ Some (type_at types variable)
-  pub held : (variable : ℕ) → is_assigned known.assigned variable ≡ true → HasType (type_at types variable) (bag_in store variable)
+pub record StoreHolds (types : List VarType) (known : Known) (store : List BagOf) : Type 0 where
+  pub typed : (variable : ℕ) → is_assigned known.assigned variable ≡ true → first_type known variable ≡ Some (variable_type types variable)
+  pub held : (variable : ℕ) → is_assigned known.assigned variable ≡ true → HasType (variable_type types variable) (stored_bag store variable)
 
 -- a type that is known is the variable's
 abbrev pub Settles : List VarType → Known → Type 0
-Settles types known = (variable : ℕ) → IfSome (first_type known variable) (λ type. type_at types variable ≡ type)
+Settles types known = (variable : ℕ) → IfSome (first_type known variable) (λ type. variable_type types variable ≡ type)
 
 -- a block is accepted from here on, where the bags have their types
 pub record Ready (types : List VarType) (known after : Known) (block : List Stmt) (store : List BagOf) : Type 0 where
@@ -65,7 +65,7 @@ pub record Ready (types : List VarType) (known after : Known) (block : List Stmt
   pub formed : All (IsFormedHead (length store)) (flat_map heads_in block)
   pub assigned : length known.assigned ≡ length store
   pub typed : length known.types ≡ length store
-  pub holds : Holds types known store
+  pub holds : StoreHolds types known store
 
 abbrev pub IsReady : List Stmt → List BagOf → Type 0
 IsReady block store = (types : List VarType) × (known : Known) × (after : Known) × Ready types known after block store

@@ -15,7 +15,7 @@ ghost use Rattle.mit_ops.specs.Operators.{captured, file_rows, legal_in, name_wr
 ghost use Rattle.mit_ops.specs.Stops.{Gives};
 ghost use Rattle.mit_script.specs.Trees.{is_write};
 ghost use Rattle.mit_step.specs.Running.{Asks, GivesBag, NamedBy, StopsAs};
-ghost use Rattle.mit_step.specs.Typing.{Argued, IsMade, IsValue, bag_in, inputs_in};
+ghost use Rattle.mit_step.specs.Typing.{Argued, IsMade, IsValue, inputs_in, stored_bag};
 
 use crate::loose::Loose;
 use crate::store::{Store, shared};
@@ -143,7 +143,7 @@ fn name_value(
         (captured (inputs_in store.now args.now))) result }
 {
     let values = values_of(alloc, args, store)?;
-    let nothing = Row::from_values(Vec::new(alloc));
+    let nothing = Row::empty();
     match eval(alloc, name, &nothing, &values) {
         Ok(value) => Ok(text_of(value)),
         Err(fault) => Err(unnamed(fault)),
@@ -233,13 +233,13 @@ fn over_bags(
 }
 
 /// The value of a scalar.
-fn value_of(alloc: Global, bag: &Loose) -> Result<Value, AllocError>
+fn value_of(bag: &Loose) -> Result<Value, AllocError>
     requires { IsValue bag.now }
     ensures { IfOk result (λ value. bag.now ≡ (value ∷ []) ∷ []) }
 {
     match bag.single() {
         Some(row) => match row.values() {
-            [value] => value.copy(alloc),
+            [value] => value.copy(),
             _ => unreachable!(),
         },
         None => unreachable!(),
@@ -254,7 +254,7 @@ fn values_of(alloc: Global, args: &[u32], store: &Store) -> Result<Vec<Value>, A
 {
     let mut values = Vec::with_capacity(alloc, args.len())?;
     for variable in args {
-        values.push(value_of(alloc, store.get(*variable))?)?;
+        values.push(value_of(store.get(*variable))?)?;
     }
     Ok(values)
 }
@@ -282,7 +282,7 @@ pub(crate) fn name_of(
     requires argued { Argued op.now args.now store.now }
     ensures named { IfOk result (λ name. name_written op.now (inputs_in store.now args.now) ≡ Some name) }
     ensures bag { (files : FileMap) → MatchResult result
-        (λ _. whole op.now (inputs_in store.now args.now) files ≡ Ok (bag_in store.now (get_or args.now 0 0)))
+        (λ _. whole op.now (inputs_in store.now args.now) files ≡ Ok (stored_bag store.now (get_or args.now 0 0)))
         (StopsAs (whole op.now (inputs_in store.now args.now) files)) }
     ensures own { IfErr result (λ stop. stop ≢ Stop.Folder) }
 {
@@ -329,6 +329,6 @@ fn written_value(alloc: Global, name: &Expr, captures: &[Value]) -> Result<Value
     ensures typed { IfOk result (λ value.
         type_in [] (map type_of_value captures.now) name.now ≡ Some (type_of_value value)) }
 {
-    let nothing = Row::from_values(Vec::new(alloc));
+    let nothing = Row::empty();
     Ok(eval(alloc, name, &nothing, captures)?)
 }

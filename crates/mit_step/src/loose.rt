@@ -72,16 +72,16 @@ pub(crate) fn copy_rows(alloc: Global, rows: &[Row]) -> Result<Vec<Row>, AllocEr
     ensures { IfOk result (λ copies. copies.items ≡ rows.now) }
 {
     let mut copies = Vec::with_capacity(alloc, rows.len())?;
-    add_copies(alloc, rows, &mut copies)?;
+    add_copies(rows, &mut copies)?;
     Ok(copies)
 }
 
 /// Adds equal rows.
-pub(crate) fn add_copies(alloc: Global, rows: &[Row], onto: &mut Vec<Row>) -> Result<(), AllocError>
+pub(crate) fn add_copies(rows: &[Row], onto: &mut Vec<Row>) -> Result<(), AllocError>
     ensures { OnOk result (onto.new.items ≡ onto.old.items ++ rows.now) }
 {
     for row in rows {
-        onto.push(row.copy(alloc)?)?;
+        onto.push(row.copy()?)?;
     }
     Ok(())
 }

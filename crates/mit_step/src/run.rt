@@ -7,9 +7,9 @@ ghost use Rattle.mit_shelf.specs.Shelf.{Agrees};
 ghost use Rattle.mit_shelf.specs.Stops.{IfFolder};
 ghost use Rattle.mit_ops.specs.Endings.{truth_in};
 ghost use Rattle.mit_ops.specs.Operators.{name_written, whole};
-ghost use Rattle.mit_script.specs.Execution.{Ended, State, assigned, decides, evaluated, goes_on, start, written};
+ghost use Rattle.mit_script.specs.Execution.{Ended, ScriptState, after_write, assigned, by_condition, evaluated, goes_on, start};
 ghost use Rattle.mit_script.specs.Trees.{is_write};
-ghost use Rattle.mit_step.specs.Running.{Asks, Faults, Leaves, Stands, stop_at};
+ghost use Rattle.mit_step.specs.Running.{Asks, Faults, LeavesRun, Stands, stop_at};
 ghost use Rattle.mit_step.specs.Typing.{Argued, IsMade, inputs_in};
 
 use crate::decisions::Decisions;
@@ -77,7 +77,7 @@ fn bag_of<F: Folder>(
 ) -> Result<Rc<Loose>, Stop<ScriptFault>>
     requires other { is_write op.now ≡ false }
     requires argued { Argued op.now args.now run.now.store }
-    ensures answer { (files : FileMap) (state : State) (next : BagOf → Ended) →
+    ensures answer { (files : FileMap) (state : ScriptState) (next : BagOf → Ended) →
         Agrees shelf.new files → Stands state run.now →
         MatchResult result (λ bag. evaluated files number op.now args.now state next ≡ next bag.value)
         (Faults (evaluated files number op.now args.now state next)) }
@@ -104,8 +104,8 @@ pub(crate) fn assign<F: Folder>(
     requires there { target < length run.old.store }
     requires other { is_write op.now ≡ false }
     requires argued { Argued op.now args.now run.old.store }
-    ensures answer { (files : FileMap) (state : State) → Agrees shelf.new files → Stands state run.old →
-        Leaves (evaluated files number op.now args.now state (assigned target state)) (λ _. goes_on) run.new result }
+    ensures answer { (files : FileMap) (state : ScriptState) → Agrees shelf.new files → Stands state run.old →
+        LeavesRun (evaluated files number op.now args.now state (assigned target state)) (λ _. goes_on) run.new result }
     ensures put { OnOk result ((bag : BagOf) × (run.new.store ≡ set run.old.store target bag)
         × IsMade op.now (inputs_in run.old.store args.now) bag) }
     ensures kept { run.new.decisions.left ≡ run.old.decisions.left }
@@ -128,9 +128,9 @@ pub(crate) fn write<F: Folder>(
 ) -> Result<(), Stop<ScriptFault>>
     requires write { is_write op.now ≡ true }
     requires argued { Argued op.now args.now run.old.store }
-    ensures answer { (files : FileMap) (state : State) → Agrees shelf.new files → Stands state run.old →
-        Leaves (evaluated files number op.now args.now state
-        (written state (name_written op.now (map state.store args.now)))) (λ _. goes_on) run.new result }
+    ensures answer { (files : FileMap) (state : ScriptState) → Agrees shelf.new files → Stands state run.old →
+        LeavesRun (evaluated files number op.now args.now state
+        (after_write state (name_written op.now (map state.store args.now)))) (λ _. goes_on) run.new result }
     ensures store { run.new.store ≡ run.old.store }
     ensures kept { run.new.decisions.left ≡ run.old.decisions.left }
     ensures asks { Asks (F.files folder.old) (F.files folder.new) (F.faults folder.old) (F.faults folder.new) shelf.old shelf.new }
@@ -170,9 +170,9 @@ pub(crate) fn decide<F: Folder>(
 ) -> Result<bool, Stop<ScriptFault>>
     requires other { is_write op.now ≡ false }
     requires argued { Argued op.now args.now run.old.store }
-    ensures answer { (files : FileMap) (state : State) (next : Bool → State → Ended) →
+    ensures answer { (files : FileMap) (state : ScriptState) (next : Bool → ScriptState → Ended) →
         Agrees shelf.new files → Stands state run.old →
-        Leaves (decides files number op.now args.now state next) next run.new result }
+        LeavesRun (by_condition files number op.now args.now state next) next run.new result }
     ensures store { run.new.store ≡ run.old.store }
     ensures taken { OnOk result (run.new.decisions.left < run.old.decisions.left) }
     ensures fewer { run.new.decisions.left ≤ run.old.decisions.left }

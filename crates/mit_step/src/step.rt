@@ -7,12 +7,12 @@ ghost use Rattle.mit_shelf.specs.Shelf.{Agrees};
 ghost use Rattle.mit_shelf.specs.Stops.{IfFolder};
 ghost use Rattle.mit_ops.specs.declared.types.VarType.{VarType};
 ghost use Rattle.mit_script.specs.Accepted.{Known};
-ghost use Rattle.mit_script.specs.Execution.{Doing, State, decides, exec, exec_of, goes_on, in_turn, turns};
+ghost use Rattle.mit_script.specs.Execution.{Doing, ScriptState, by_condition, exec, exec_of, goes_on, in_turn, turns};
 ghost use Rattle.mit_script.specs.Trees.{count_of, count_of_all};
 ghost use Rattle.mit_script.specs.declared.tree.Stmt.TheVariants as stmt;
 ghost use Rattle.mit_step.specs.Stepping.{EndsAs};
-ghost use Rattle.mit_step.specs.Running.{Asks, Leaves, Stands};
-ghost use Rattle.mit_step.specs.Typing.{Holds, IsReady, Ready};
+ghost use Rattle.mit_step.specs.Running.{Asks, LeavesRun, Stands};
+ghost use Rattle.mit_step.specs.Typing.{IsReady, Ready, StoreHolds};
 
 use crate::count::{count_all, count_one};
 use crate::run::{Run, assign, decide, write};
@@ -43,10 +43,10 @@ fn run_all<F: Folder>(
     requires counted { 1 ≤ number }
     requires few { number + count_of_all block.now ≤ MAX_SCRIPT + 1 }
     requires ready { IsReady block.now run.old.store }
-    ensures answer { (files : FileMap) (state : State) → Agrees shelf.new files → Stands state run.old →
-        Leaves (in_turn (map (exec_of files) block.now) number state) (λ _. goes_on) run.new result }
+    ensures answer { (files : FileMap) (state : ScriptState) → Agrees shelf.new files → Stands state run.old →
+        LeavesRun (in_turn (map (exec_of files) block.now) number state) (λ _. goes_on) run.new result }
     ensures holds { (types : List VarType) (known after : Known) → Ready types known after block.now run.old.store →
-        OnOk result (Holds types after run.new.store) }
+        OnOk result (StoreHolds types after run.new.store) }
     ensures sized { OnOk result (length run.new.store ≡ length run.old.store) }
     ensures fewer { run.new.decisions.left ≤ run.old.decisions.left }
     ensures asks { Asks (F.files folder.old) (F.files folder.new) (F.faults folder.old) (F.faults folder.new) shelf.old shelf.new }
@@ -72,10 +72,10 @@ fn run_one<F: Folder>(
     requires counted { 1 ≤ number }
     requires few { number + count_of stmt.now ≤ MAX_SCRIPT + 1 }
     requires ready { IsReady (stmt.now ∷ []) run.old.store }
-    ensures answer { (files : FileMap) (state : State) → Agrees shelf.new files → Stands state run.old →
-        Leaves ((exec_of files stmt.now).does number state) (λ _. goes_on) run.new result }
+    ensures answer { (files : FileMap) (state : ScriptState) → Agrees shelf.new files → Stands state run.old →
+        LeavesRun ((exec_of files stmt.now).does number state) (λ _. goes_on) run.new result }
     ensures holds { (types : List VarType) (known after : Known) → Ready types known after (stmt.now ∷ []) run.old.store →
-        OnOk result (Holds types after run.new.store) }
+        OnOk result (StoreHolds types after run.new.store) }
     ensures sized { OnOk result (length run.new.store ≡ length run.old.store) }
     ensures fewer { run.new.decisions.left ≤ run.old.decisions.left }
     ensures asks { Asks (F.files folder.old) (F.files folder.new) (F.faults folder.old) (F.faults folder.new) shelf.old shelf.new }
@@ -122,12 +122,12 @@ fn run_while<F: Folder>(
     requires counted { 1 ≤ number }
     requires few { number + 1 + count_of_all body.now ≤ MAX_SCRIPT + 1 }
     requires ready { IsReady (stmt.While op.now args.now body.now ∷ []) run.old.store }
-    ensures answer { (files : FileMap) (state : State) → Agrees shelf.new files → Stands state run.old →
-        Leaves (turns state.left (decides files number op.now args.now)
+    ensures answer { (files : FileMap) (state : ScriptState) → Agrees shelf.new files → Stands state run.old →
+        LeavesRun (turns state.left (by_condition files number op.now args.now)
         (in_turn (map (exec_of files) body.now) (number + 1)) state) (λ _. goes_on) run.new result }
     ensures holds { (types : List VarType) (known after : Known) →
         Ready types known after (stmt.While op.now args.now body.now ∷ []) run.old.store →
-        OnOk result (Holds types after run.new.store) }
+        OnOk result (StoreHolds types after run.new.store) }
     ensures sized { OnOk result (length run.new.store ≡ length run.old.store) }
     ensures fewer { run.new.decisions.left ≤ run.old.decisions.left }
     ensures asks { Asks (F.files folder.old) (F.files folder.new) (F.faults folder.old) (F.faults folder.new) shelf.old shelf.new }

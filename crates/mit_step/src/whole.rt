@@ -6,12 +6,10 @@ ghost use Rattle.mit_ops.specs.Answers.{BagOrFault};
 ghost use Rattle.mit_ops.specs.Kinds.{bag_inputs_of, kind_of};
 ghost use Rattle.mit_ops.specs.Operators.{whole};
 ghost use Rattle.mit_ops.specs.Parts.{Fits};
-ghost use Rattle.mit_step.specs.Stepping.{GivesWhole, inputs_of};
+ghost use Rattle.mit_step.specs.Stepping.{GivesWhole, with_captures};
 
 mod answers;
-mod firsts;
 mod groups;
-mod index;
 mod join;
 mod once;
 mod rows;
@@ -22,6 +20,7 @@ use crate::whole::groups::{distinct, reduced};
 use crate::whole::join::joined_rows;
 use crate::whole::once::{counted, made_row, only, summed};
 use crate::whole::rows::{filtered, flattened, mapped};
+use mit_keyed::laws::{distinct_law, groups_law};
 use mit_ops::laws::{fewer_rows_law, fitting_groups_law, fitting_law, partition_law};
 use mit_ops::{OpFault, OpSpec};
 use mit_rows::laws::{bags_are_rows_in_order, bags_are_sorted_lists};
@@ -61,8 +60,8 @@ pub fn whole_bag(
 ) -> Result<Bag, WholeStop>
     requires kind { (kind_of spec.now ≢ 1) × (kind_of spec.now ≢ 14) }
     requires count { length bags.now ≡ bag_inputs_of spec.now }
-    requires fits { Fits spec.now (inputs_of (map (λ bag. bag.value) bags.now) captures.now) }
-    ensures { GivesWhole (whole spec.now (inputs_of (map (λ bag. bag.value) bags.now) captures.now)
+    requires fits { Fits spec.now (with_captures (map (λ bag. bag.value) bags.now) captures.now) }
+    ensures { GivesWhole (whole spec.now (with_captures (map (λ bag. bag.value) bags.now) captures.now)
         fin.empty) result }
 {
     match bags {
@@ -89,8 +88,8 @@ pub(crate) fn whole_loose(
 ) -> Result<Loose, WholeStop>
     requires kind { (kind_of spec.now ≢ 1) × (kind_of spec.now ≢ 14) }
     requires count { length bags.now ≡ bag_inputs_of spec.now }
-    requires fits { Fits spec.now (inputs_of (map (λ bag. bag.value) bags.now) captures.now) }
-    ensures { GivesWhole (whole spec.now (inputs_of (map (λ bag. bag.value) bags.now) captures.now)
+    requires fits { Fits spec.now (with_captures (map (λ bag. bag.value) bags.now) captures.now) }
+    ensures { GivesWhole (whole spec.now (with_captures (map (λ bag. bag.value) bags.now) captures.now)
         fin.empty) result }
 {
     match bags {
@@ -110,8 +109,8 @@ fn of_loose(
 ) -> Result<Loose, WholeStop>
     requires kind { kind_of spec.now ≢ 14 }
     requires count { bag_inputs_of spec.now ≡ 1 }
-    requires fits { Fits spec.now (inputs_of (bag.now ∷ []) captures.now) }
-    ensures { GivesWhole (whole spec.now (inputs_of (bag.now ∷ []) captures.now) fin.empty) result }
+    requires fits { Fits spec.now (with_captures (bag.now ∷ []) captures.now) }
+    ensures { GivesWhole (whole spec.now (with_captures (bag.now ∷ []) captures.now) fin.empty) result }
 {
     partition_law();
     fewer_rows_law();
@@ -129,8 +128,8 @@ fn of_two_loose(
     captures: &[Value],
 ) -> Result<Loose, WholeStop>
     requires count { bag_inputs_of spec.now ≡ 2 }
-    requires fits { Fits spec.now (inputs_of (left.now ∷ right.now ∷ []) captures.now) }
-    ensures { GivesWhole (whole spec.now (inputs_of (left.now ∷ right.now ∷ []) captures.now)
+    requires fits { Fits spec.now (with_captures (left.now ∷ right.now ∷ []) captures.now) }
+    ensures { GivesWhole (whole spec.now (with_captures (left.now ∷ right.now ∷ []) captures.now)
         fin.empty) result }
 {
     partition_law();
@@ -144,8 +143,8 @@ fn of_two_loose(
 fn of_none(alloc: Global, spec: &OpSpec, captures: &[Value]) -> Result<Loose, WholeStop>
     requires kind { kind_of spec.now ≢ 1 }
     requires count { bag_inputs_of spec.now ≡ 0 }
-    requires fits { Fits spec.now (inputs_of [] captures.now) }
-    ensures { GivesWhole (whole spec.now (inputs_of [] captures.now) fin.empty) result }
+    requires fits { Fits spec.now (with_captures [] captures.now) }
+    ensures { GivesWhole (whole spec.now (with_captures [] captures.now) fin.empty) result }
 {
     fitting_law();
     match spec {
@@ -165,16 +164,18 @@ fn of_one(
 ) -> Result<Loose, WholeStop>
     requires kind { kind_of spec.now ≢ 14 }
     requires count { bag_inputs_of spec.now ≡ 1 }
-    requires fits { Fits spec.now (inputs_of (rows.now ∷ []) captures.now) }
-    ensures { GivesWhole (whole spec.now (inputs_of (rows.now ∷ []) captures.now) fin.empty) result }
+    requires fits { Fits spec.now (with_captures (rows.now ∷ []) captures.now) }
+    ensures { GivesWhole (whole spec.now (with_captures (rows.now ∷ []) captures.now) fin.empty) result }
 {
     fitting_law();
     fitting_groups_law();
+    groups_law();
+    distinct_law();
     bags_are_sorted_lists();
     match spec {
         OpSpec::Map { exprs } => settle(mapped(alloc, exprs.as_slice(), rows, captures)?),
         OpSpec::Filter { expr } => settle(filtered(alloc, expr, rows, captures)?),
-        OpSpec::FlatMap { flat } => settle(flattened(alloc, flat, rows, captures)?),
+        OpSpec::FlatMap { flat } => flattened(alloc, flat, rows, captures),
         OpSpec::Reduce { keys, agg } => settle(reduced(alloc, keys.as_slice(), *agg, rows)?),
         OpSpec::Distinct => settle(distinct(alloc, rows)?),
         OpSpec::Only => only(alloc, rows),
@@ -194,8 +195,8 @@ fn of_two(
     captures: &[Value],
 ) -> Result<Loose, WholeStop>
     requires count { bag_inputs_of spec.now ≡ 2 }
-    requires fits { Fits spec.now (inputs_of (left.now ∷ right.now ∷ []) captures.now) }
-    ensures { GivesWhole (whole spec.now (inputs_of (left.now ∷ right.now ∷ []) captures.now)
+    requires fits { Fits spec.now (with_captures (left.now ∷ right.now ∷ []) captures.now) }
+    ensures { GivesWhole (whole spec.now (with_captures (left.now ∷ right.now ∷ []) captures.now)
         fin.empty) result }
 {
     fitting_law();
@@ -204,10 +205,7 @@ fn of_two(
         OpSpec::Join {
             left: by_left,
             right: by_right,
-        } => {
-            let answer = joined_rows(alloc, by_left.as_slice(), left, by_right.as_slice(), right)?;
-            settle(answer)
-        }
+        } => Ok(joined_rows(alloc, by_left.as_slice(), left, by_right.as_slice(), right)?),
         OpSpec::Union => Ok(union(alloc, left, right)?),
         _ => unreachable!(),
     }
@@ -218,7 +216,7 @@ fn union(alloc: Global, left: &[Row], right: &[Row]) -> Result<Loose, AllocError
     ensures { IfOk result (λ bag. bag ≡ bag_sum (left.now ∷ right.now ∷ [])) }
 {
     let mut rows = Vec::with_capacity(alloc, left.len().saturating_add(right.len()))?;
-    add_copies(alloc, left, &mut rows)?;
-    add_copies(alloc, right, &mut rows)?;
+    add_copies(left, &mut rows)?;
+    add_copies(right, &mut rows)?;
     Ok(Loose::from_rows(rows))
 }

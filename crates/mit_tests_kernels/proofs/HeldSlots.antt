@@ -6,11 +6,11 @@ use Rattle.std.proofs.lemmas.List.Elements.{All-append, All-nil}
 use Rattle.std.proofs.lemmas.Slice.Zip.{AllZip-long}
 use Rattle.std.specs.List.{All, Contains}
 use Rattle.mit_rows.specs.Bags.{RowOf}
-use Rattle.mit_kernel.specs.Meaning.{Meaning, Takes, begun, changed, fed_row, kept, no_rows, renewed, with_lists, with_row}
+use Rattle.mit_kernel.specs.Meaning.{Meaning, Takes, begun, changed, fed_row, kept_lists, no_rows, renewed, with_lists, with_row}
 use Rattle.mit_ops.specs.Kinds.{bag_inputs_of, captures_of}
 use Rattle.mit_ops.specs.Parts.{Fits}
 use Rattle.mit_ops.specs.declared.kinds.OpSpec.{OpSpec}
-use Rattle.mit_tests_kernels.specs.Held.{Among, Held, Keeps}
+use Rattle.mit_tests_kernels.specs.Held.{Among, HeldSlot, Keeps}
 
 has_one : (all : List RowOf) (row : RowOf) → Contains all row → All (Contains all) (row ∷ [])
 has_one all row has zero d within = has
@@ -23,7 +23,7 @@ among_added (rows ∷ fed) [] input row among within has = absurd among
 among_added (rows ∷ fed) (all ∷ lists) zero row among within has = (All-append (Contains all) rows (row ∷ []) among.0 (has_one all row has), among.1)
 among_added (rows ∷ fed) (all ∷ lists) (suc input) row among within has = (among.0, among_added fed lists input row among.1 (omega arith) has)
 
-among_kept : (keep : List Bool) (fed lists : List (List RowOf)) → Among fed lists → Among (kept keep fed) lists
+among_kept : (keep : List Bool) (fed lists : List (List RowOf)) → Among fed lists → Among (kept_lists keep fed) lists
 among_kept keep [] lists among = among
 among_kept [] (rows ∷ fed) lists among = among
 among_kept (flag ∷ keep) (rows ∷ fed) [] among = absurd among
@@ -37,7 +37,7 @@ among_none (all ∷ lists) = (All-nil (Contains all), among_none lists)
 pub lists_none : (spec : OpSpec) (lists : List (List RowOf)) → length lists ≡ bag_inputs_of spec + captures_of spec → no_rows spec ≡ replicate (length lists) []
 lists_none spec lists count = ap (λ n. replicate n []) (sym count)
 
-pub held_begun : (kernel : Meaning) (slot : ℕ) (spec : OpSpec) (part parts : ℕ) (lists : List (List RowOf)) → Fits spec lists → no_rows spec ≡ replicate (length lists) [] → Held (begun kernel slot spec part parts) slot lists
+pub held_begun : (kernel : Meaning) (slot : ℕ) (spec : OpSpec) (part parts : ℕ) (lists : List (List RowOf)) → Fits spec lists → no_rows spec ≡ replicate (length lists) [] → HeldSlot (begun kernel slot spec part parts) slot lists
 held_begun kernel slot spec part parts lists fits none = record {
   found = record { spec = spec; part = part; parts = parts; lists = no_rows spec };
   is = rw (eq-eqb slot slot refl) refl;
@@ -47,9 +47,9 @@ held_begun kernel slot spec part parts lists fits none = record {
 
 -- where a change of a slot's lists keeps them among these, what was held of any slot still is
 held_changed : (kernel : Meaning) (slot : ℕ) (change : List (List RowOf) → List (List RowOf)) (lists : List (List RowOf)) → ((fed : List (List RowOf)) → Among fed lists → Among (change fed) lists)
-    → (other : ℕ) → Held kernel other lists → Held (changed kernel slot change) other lists
+    → (other : ℕ) → HeldSlot kernel other lists → HeldSlot (changed kernel slot change) other lists
 held_changed kernel slot change lists keeps other held =
-    elim (eqb other slot) as (λ here. eqb other slot ≡ here → Held (changed kernel slot change) other lists) [
+    elim (eqb other slot) as (λ here. eqb other slot ≡ here → HeldSlot (changed kernel slot change) other lists) [
       | true ↦ λ e. record {
         found = with_lists change held.found;
         is = rw (e, ← eqb-true other slot e, held.is) refl;
@@ -68,18 +68,18 @@ module _ (kernel after : Meaning) (slot : ℕ) (lists : List (List RowOf)) where
 
   pub renewed_keeps : (keep : List Bool) → after ≡ renewed kernel slot keep → Keeps kernel after lists
   renewed_keeps keep is =
-      subst (λ (now : Meaning). Keeps kernel now lists) (sym is) (held_changed kernel slot (kept keep) lists (λ fed among. among_kept keep fed lists among))
+      subst (λ (now : Meaning). Keeps kernel now lists) (sym is) (held_changed kernel slot (kept_lists keep) lists (λ fed among. among_kept keep fed lists among))
 
   -- the slot that begins was not there before
   pub begun_keeps : (spec : OpSpec) (part parts : ℕ) → kernel.slots slot ≡ None → after ≡ begun kernel slot spec part parts → Keeps kernel after lists
   begun_keeps spec part parts free is =
       subst (λ (now : Meaning). Keeps kernel now lists) (sym is) (λ other held.
-      elim (eqb other slot) as (λ here. eqb other slot ≡ here → Held (begun kernel slot spec part parts) other lists) [
+      elim (eqb other slot) as (λ here. eqb other slot ≡ here → HeldSlot (begun kernel slot spec part parts) other lists) [
         | true ↦ λ e. absurd (none-some held.found (sym free ∙ ap kernel.slots (sym (eqb-true other slot e)) ∙ held.is))
         | false ↦ λ e. record { found = held.found; is = rw (e, held.is) refl; fits = held.fits; among = held.among }
       ] refl)
 
-pub held_takes : (kernel : Meaning) (slot : ℕ) (lists : List (List RowOf)) → Held kernel slot lists → (fewer : (spec : OpSpec) (inputs others : List (List RowOf)) → Fits spec inputs → Among others inputs → Fits spec others) (input : ℕ) (row : RowOf)
+pub held_takes : (kernel : Meaning) (slot : ℕ) (lists : List (List RowOf)) → HeldSlot kernel slot lists → (fewer : (spec : OpSpec) (inputs others : List (List RowOf)) → Fits spec inputs → Among others inputs → Fits spec others) (input : ℕ) (row : RowOf)
     → input < length lists → Contains (get_or lists input []) row → Takes kernel slot input row
 held_takes kernel slot lists held fewer input row within has = record {
   found = held.found;

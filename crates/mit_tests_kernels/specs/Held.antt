@@ -8,7 +8,7 @@ use Rattle.mit_ops.specs.Parts.{Fits}
 abbrev pub Among : List (List RowOf) → List (List RowOf) → Type 0
 Among fed lists = AllZip (λ fewer all. All (Contains all) fewer) fed lists
 
-pub record Held (kernel : Meaning) (slot : ℕ) (lists : List (List RowOf)) : Type 0 where
+pub record HeldSlot (kernel : Meaning) (slot : ℕ) (lists : List (List RowOf)) : Type 0 where
   pub found : Slot
   pub is : kernel.slots slot ≡ Some found
   pub fits : Fits found.spec lists
@@ -16,4 +16,4 @@ pub record Held (kernel : Meaning) (slot : ℕ) (lists : List (List RowOf)) : Ty
 
 -- each slot of which this was kept before is one after
 abbrev pub Keeps : Meaning → Meaning → List (List RowOf) → Type 0
-Keeps before after lists = (slot : ℕ) → Held before slot lists → Held after slot lists
+Keeps before after lists = (slot : ℕ) → HeldSlot before slot lists → HeldSlot after slot lists

@@ -117,7 +117,7 @@ fn row_of(rt: &(impl Abort + AllocGlobal), numbers: &str) -> Row {
         values.push(Value::Int(number)).expect(rt, "memory");
     }
     assert!(rt; values.len() <= MAX_COLUMNS);
-    Row::from_values(values)
+    Row::from_values(values).expect(rt, "memory")
 }
 
 /// Such rows, with blanks between.

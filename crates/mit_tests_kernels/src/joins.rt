@@ -1,6 +1,6 @@
 //! Two joins, each in a slot of one kernel.
 ghost use Rattle.std.specs.Prelude.{map};
-ghost use Rattle.mit_tests_kernels.specs.Held.{Held, Keeps};
+ghost use Rattle.mit_tests_kernels.specs.Held.{HeldSlot, Keeps};
 
 use crate::given::{expect_fits, lists_of, spec_of};
 use crate::slots::{begin, fed, feed_one, finish, renew};
@@ -18,8 +18,8 @@ fn feed_both(
     b: u64,
     lists: &[Vec<Row>],
 )
-    requires a { Held (meaning kernel.old) a (map (λ rows. rows.items) lists.now) }
-    requires b { Held (meaning kernel.old) b (map (λ rows. rows.items) lists.now) }
+    requires a { HeldSlot (meaning kernel.old) a (map (λ rows. rows.items) lists.now) }
+    requires b { HeldSlot (meaning kernel.old) b (map (λ rows. rows.items) lists.now) }
     ensures { Keeps (meaning kernel.old) (meaning kernel.new) (map (λ rows. rows.items) lists.now) }
 {
     feed_one(rt, kernel, a, 0, 0, lists);
@@ -35,7 +35,7 @@ fn feed_again(
     a: u64,
     lists: &[Vec<Row>],
 )
-    requires { Held (meaning kernel.old) a (map (λ rows. rows.items) lists.now) }
+    requires { HeldSlot (meaning kernel.old) a (map (λ rows. rows.items) lists.now) }
     ensures { Keeps (meaning kernel.old) (meaning kernel.new) (map (λ rows. rows.items) lists.now) }
 {
     renew(rt, kernel, a, &[true, false], lists);
@@ -50,7 +50,7 @@ fn expect(
     lists: &[Vec<Row>],
     due: &str,
 )
-    requires { Held (meaning kernel.old) slot (map (λ rows. rows.items) lists.now) }
+    requires { HeldSlot (meaning kernel.old) slot (map (λ rows. rows.items) lists.now) }
     ensures { Keeps (meaning kernel.old) (meaning kernel.new) (map (λ rows. rows.items) lists.now) }
 {
     assert_eq!(rt;

@@ -3,7 +3,7 @@ ghost use Rattle.std.specs.Prelude.{◌≡◌, ◌<◌, ◌+◌, length, map, sl
 ghost use Rattle.std.specs.List.{Contains};
 ghost use Rattle.mit_ops.specs.Kinds.{bag_inputs_of, captures_of};
 ghost use Rattle.mit_ops.specs.Parts.{Fits};
-ghost use Rattle.mit_tests_kernels.specs.Held.{Held, Keeps};
+ghost use Rattle.mit_tests_kernels.specs.Held.{HeldSlot, Keeps};
 
 use crate::given::described;
 use mit_kernel::{Kernel, kit};
@@ -35,7 +35,7 @@ pub(crate) fn begin(
 ) -> u64
     requires fits { Fits spec.now (map (λ rows. rows.items) lists.now) }
     requires count { length lists.now ≡ bag_inputs_of spec.now + captures_of spec.now }
-    ensures held { Held (meaning kernel.new) result (map (λ rows. rows.items) lists.now) }
+    ensures held { HeldSlot (meaning kernel.new) result (map (λ rows. rows.items) lists.now) }
     ensures keeps { Keeps (meaning kernel.old) (meaning kernel.new) (map (λ rows. rows.items) lists.now) }
 {
     fewer_rows_law();
@@ -55,7 +55,7 @@ fn feed_row(
     row: &Row,
     lists: &[Vec<Row>],
 )
-    requires held { Held (meaning kernel.old) slot (map (λ rows. rows.items) lists.now) }
+    requires held { HeldSlot (meaning kernel.old) slot (map (λ rows. rows.items) lists.now) }
     requires within { input < length lists.now }
     requires row { Contains (slice_index_or (map (λ rows. rows.items) lists.now) input []) row.now }
     ensures { Keeps (meaning kernel.old) (meaning kernel.new) (map (λ rows. rows.items) lists.now) }
@@ -75,7 +75,7 @@ pub(crate) fn feed_one(
     number: usize,
     lists: &[Vec<Row>],
 )
-    requires { Held (meaning kernel.old) slot (map (λ rows. rows.items) lists.now) }
+    requires { HeldSlot (meaning kernel.old) slot (map (λ rows. rows.items) lists.now) }
     ensures { Keeps (meaning kernel.old) (meaning kernel.new) (map (λ rows. rows.items) lists.now) }
 {
     assert!(rt; usize::from(input) < lists.len());
@@ -91,7 +91,7 @@ fn feed_list(
     input: u16,
     lists: &[Vec<Row>],
 )
-    requires held { Held (meaning kernel.old) slot (map (λ rows. rows.items) lists.now) }
+    requires held { HeldSlot (meaning kernel.old) slot (map (λ rows. rows.items) lists.now) }
     requires within { input < length lists.now }
     ensures { Keeps (meaning kernel.old) (meaning kernel.new) (map (λ rows. rows.items) lists.now) }
 {
@@ -107,7 +107,7 @@ pub(crate) fn feed_lists(
     slot: u64,
     lists: &[Vec<Row>],
 )
-    requires { Held (meaning kernel.old) slot (map (λ rows. rows.items) lists.now) }
+    requires { HeldSlot (meaning kernel.old) slot (map (λ rows. rows.items) lists.now) }
     ensures { Keeps (meaning kernel.old) (meaning kernel.new) (map (λ rows. rows.items) lists.now) }
 {
     assert!(rt; lists.len() < 65_536);
@@ -123,7 +123,7 @@ pub(crate) fn finish(
     slot: u64,
     lists: &[Vec<Row>],
 ) -> Result<String, AllocError>
-    requires { Held (meaning kernel.old) slot (map (λ rows. rows.items) lists.now) }
+    requires { HeldSlot (meaning kernel.old) slot (map (λ rows. rows.items) lists.now) }
     ensures { Keeps (meaning kernel.old) (meaning kernel.new) (map (λ rows. rows.items) lists.now) }
 {
     let mut out = Vec::new(rt.alloc());
@@ -139,7 +139,7 @@ pub(crate) fn renew(
     keep: &[bool],
     lists: &[Vec<Row>],
 )
-    requires { Held (meaning kernel.old) slot (map (λ rows. rows.items) lists.now) }
+    requires { HeldSlot (meaning kernel.old) slot (map (λ rows. rows.items) lists.now) }
     ensures { Keeps (meaning kernel.old) (meaning kernel.new) (map (λ rows. rows.items) lists.now) }
 {
     assert!(rt; keep.len() == lists.len());
@@ -147,7 +147,7 @@ pub(crate) fn renew(
 }
 
 pub(crate) fn close(kernel: &mut Box<dyn Kernel>, slot: u64, lists: &[Vec<Row>])
-    requires { Held (meaning kernel.old) slot (map (λ rows. rows.items) lists.now) }
+    requires { HeldSlot (meaning kernel.old) slot (map (λ rows. rows.items) lists.now) }
 {
     kit::close(kernel, slot);
 }

@@ -1,15 +1,14 @@
 //! Answers of operators: what they begin with and how they end as a bag.
-ghost use Rattle.std.specs.Prelude.{◌≡◌, Ok, OnOk};
+ghost use Rattle.std.specs.Prelude.{◌≡◌, OnOk};
 ghost use Rattle.mit_ops.specs.Answers.{RowsOrKind, at_row, both};
 ghost use Rattle.mit_ops.specs.Stops.{Stops};
 ghost use Rattle.mit_step.specs.Stepping.{GivesWhole};
 
 use crate::loose::Loose;
 use crate::whole::WholeStop;
-use mit_ops::laws::answers_add_up;
 use mit_ops::{Answer, OpStop};
 use mit_rows::Row;
-use std::alloc::{AllocError, Global};
+use std::alloc::AllocError;
 
 /// The bag of an answer, or its fault.
 pub fn settle(answer: Answer) -> Result<Loose, WholeStop>
@@ -22,32 +21,15 @@ pub fn settle(answer: Answer) -> Result<Loose, WholeStop>
 }
 
 /// Adds the fault with which an operator stopped at a row.
-pub fn add_stop(
-    alloc: Global,
-    row: &Row,
-    stop: OpStop,
-    answer: &mut Answer,
-) -> Result<(), AllocError>
+pub fn add_stop(row: &Row, stop: OpStop, answer: &mut Answer) -> Result<(), AllocError>
     ensures { (due : RowsOrKind) → Stops due stop
         → OnOk result (answer.new ≡ both answer.old (at_row row.now due)) }
 {
     match stop {
         OpStop::Fault(kind) => {
-            answer.add_fault(row.copy(alloc)?, kind);
+            answer.add_fault(row.copy()?, kind);
             Ok(())
         }
         OpStop::NoMemory => Err(AllocError),
     }
-}
-
-/// Adds these rows.
-pub fn add_rows(rows: Vec<Row>, answer: &mut Answer) -> Result<(), AllocError>
-    ensures { OnOk result (answer.new ≡ both answer.old (Ok rows.items)) }
-{
-    answers_add_up::<Row>();
-    answer.in_order();
-    for row in rows {
-        answer.add_row(row)?;
-    }
-    Ok(())
 }

@@ -28,10 +28,10 @@ pub fn made_row(alloc: Global, exprs: &[Expr], captures: &[Value]) -> Result<Loo
     requires typed { IsSome (types_of (type_in [] (map type_of_value captures.now)) exprs.now) }
     ensures { GivesWhole (settled (at_row [] (spec.row_of_exprs captures.now exprs.now []))) result }
 {
-    let nothing = Row::from_values(Vec::new(alloc));
+    let nothing = Row::empty();
     match row_of_exprs(alloc, exprs, &nothing, captures) {
         Ok(row) => Ok(bag_of_row(alloc, row)?),
-        Err(stop) => Err(stopped(alloc, stop)),
+        Err(stop) => Err(stopped(stop)),
     }
 }
 
@@ -40,10 +40,10 @@ pub fn only(alloc: Global, rows: &[Row]) -> Result<Loose, WholeStop>
     ensures { GivesWhole (settled (at_row [] (single rows.now))) result }
 {
     match rows {
-        [row] => Ok(bag_of_row(alloc, row.copy(alloc)?)?),
+        [row] => Ok(bag_of_row(alloc, row.copy()?)?),
         _ => {
             let kind = FaultKind::NotOne(rows.len() as u64);
-            Err(stopped(alloc, OpStop::Fault(kind)))
+            Err(stopped(OpStop::Fault(kind)))
         }
     }
 }
@@ -65,9 +65,9 @@ pub fn summed(alloc: Global, column: u8, rows: &[Row]) -> Result<Loose, WholeSto
 {
     let mut sum = Total::new(Agg::Sum(column));
     for row in rows {
-        sum.add(alloc, row)?;
+        sum.add(row)?;
     }
-    bag_of_value(alloc, sum.value(alloc))
+    bag_of_value(alloc, sum.value())
 }
 
 /// The bag of a value, or the fault in its place.
@@ -77,7 +77,7 @@ fn bag_of_value(alloc: Global, found: Result<Value, OpStop>) -> Result<Loose, Wh
 {
     match found {
         Ok(value) => Ok(bag_of_row(alloc, Row::from_value(value))?),
-        Err(stop) => Err(stopped(alloc, stop)),
+        Err(stop) => Err(stopped(stop)),
     }
 }
 
@@ -91,12 +91,12 @@ fn bag_of_row(alloc: Global, row: Row) -> Result<Loose, AllocError>
 }
 
 /// Why there is no bag, where an operator stops at no row.
-fn stopped(alloc: Global, stop: OpStop) -> WholeStop
+fn stopped(stop: OpStop) -> WholeStop
     ensures { (due : RowsOrKind) → Stops due stop → GivesWhole (settled (at_row [] due)) (Err result) }
 {
     match stop {
         OpStop::Fault(kind) => {
-            let at = Row::from_values(Vec::new(alloc));
+            let at = Row::empty();
             WholeStop::Fault(OpFault { at, kind })
         }
         OpStop::NoMemory => WholeStop::NoMemory,

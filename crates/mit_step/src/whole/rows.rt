@@ -4,14 +4,19 @@ ghost use Rattle.std.specs.List.{All};
 ghost use Rattle.mit_rows.specs.declared.row.TheConstants.{MAX_COLUMNS};
 ghost use Rattle.mit_rows.specs.declared.value.ColType.TheVariants as is;
 ghost use Rattle.mit_expr.specs.Types.{type_in, type_of_value};
-ghost use Rattle.mit_ops.specs.Answers.{at_row, both, over};
+ghost use Rattle.mit_ops.specs.Answers.{BagOrFault, at_row, both, over};
 ghost use Rattle.mit_ops.specs.EachRow as spec;
 ghost use Rattle.mit_ops.specs.Results.{flat_type, types_of};
+ghost use Rattle.mit_step.specs.Gathered.{Gathered};
+ghost use Rattle.mit_step.specs.Stepping.{GivesWhole};
 
-use crate::whole::answers::{add_rows, add_stop};
+use crate::loose::Loose;
+use crate::whole::WholeStop;
+use crate::whole::answers::add_stop;
 use mit_expr::Expr;
 use mit_ops::laws::answers_add_up;
-use mit_ops::{Answer, Flat, flatten, keeps, row_of_exprs};
+use mit_ops::{Answer, Flat, OpStop, flatten, keeps, row_of_exprs};
+use mit_rows::laws::bags_are_sorted_lists;
 use mit_rows::{Row, Value};
 use std::alloc::{AllocError, Global};
 
@@ -52,7 +57,7 @@ fn add_mapped(
 {
     match row_of_exprs(alloc, exprs, row, captures) {
         Ok(made) => answer.add_row(made),
-        Err(stop) => add_stop(alloc, row, stop, answer),
+        Err(stop) => add_stop(row, stop, answer),
     }
 }
 
@@ -90,53 +95,63 @@ fn add_filtered(
         ≡ both answer.old (at_row row.now (spec.filtered captures.now expr.now row.now))) }
 {
     match keeps(alloc, expr, row, captures) {
-        Ok(true) => answer.add_row(row.copy(alloc)?),
+        Ok(true) => answer.add_row(row.copy()?),
         Ok(false) => {
             answer.in_order();
             Ok(())
         }
-        Err(stop) => add_stop(alloc, row, stop, answer),
+        Err(stop) => add_stop(row, stop, answer),
     }
 }
 
-/// The answer of a flat map over these rows.
+/// The bag of a flat map over these rows, or its fault.
 pub fn flattened(
     alloc: Global,
     flat: &Flat,
     rows: &[Row],
     captures: &[Value],
-) -> Result<Answer, AllocError>
+) -> Result<Loose, WholeStop>
     requires typed { All (λ row. IsSome (flat_type flat.now (map type_of_value row)
         (map type_of_value captures.now))) rows.now }
     requires narrow { All (λ row. length row + 1 ≤ MAX_COLUMNS) rows.now }
-    ensures { IfOk result (λ answer.
-        answer ≡ over (λ row. at_row row (spec.flattened captures.now flat.now row)) rows.now) }
+    ensures { GivesWhole (over (λ row. at_row row (spec.flattened captures.now flat.now row)) rows.now) result }
 {
     answers_add_up::<Row>();
-    let mut answer = Answer::new(alloc);
+    bags_are_sorted_lists();
+    let mut made = Vec::new(alloc);
+    let mut faults = Answer::new(alloc);
     for row in rows {
-        add_flattened(alloc, flat, row, captures, &mut answer)?;
+        add_flattened(alloc, flat, row, captures, &mut made, &mut faults)?;
     }
-    Ok(answer)
+    match faults.finish() {
+        Ok(_) => Ok(Loose::from_rows(made)),
+        Err(fault) => Err(WholeStop::Fault(fault)),
+    }
 }
 
-/// Adds what a flat map gives for a row.
+/// Adds the rows that a flat map gives for a row, or its fault.
 fn add_flattened(
     alloc: Global,
     flat: &Flat,
     row: &Row,
     captures: &[Value],
-    answer: &mut Answer,
+    made: &mut Vec<Row>,
+    faults: &mut Answer,
 ) -> Result<(), AllocError>
     requires typed { IsSome (flat_type flat.now (map type_of_value row.now)
         (map type_of_value captures.now)) }
     requires narrow { length row.now + 1 ≤ MAX_COLUMNS }
-    ensures { OnOk result (answer.new
-        ≡ both answer.old (at_row row.now (spec.flattened captures.now flat.now row.now))) }
+    ensures { (due : BagOrFault) → Gathered made.old.items faults.old due
+        → OnOk result (Gathered made.new.items faults.new
+        (both due (at_row row.now (spec.flattened captures.now flat.now row.now)))) }
 {
-    let mut made = Vec::new(alloc);
-    match flatten(alloc, flat, row, captures, &mut made) {
-        Ok(()) => add_rows(made, answer),
-        Err(stop) => add_stop(alloc, row, stop, answer),
+    bags_are_sorted_lists();
+    match flatten(alloc, flat, row, captures, made) {
+        Ok(()) => Ok(()),
+        Err(OpStop::Fault(kind)) => {
+            faults.add_fault(row.copy()?, kind);
+            Ok(())
+        }
+        Err(OpStop::NoMemory) => Err(AllocError),
     }
 }

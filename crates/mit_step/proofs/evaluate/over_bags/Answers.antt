@@ -5,7 +5,7 @@ use Rattle.std.proofs.lemmas.List.{length-map, length-take-le}
 use Rattle.mit_ops.specs.Kinds.{bag_inputs_of}
 use Rattle.mit_ops.specs.Operators.{whole}
 use Rattle.mit_ops.specs.Parts.{Fits}
-use Rattle.mit_step.specs.Typing.{IsValue, bag_in, inputs_in}
+use Rattle.mit_step.specs.Typing.{IsValue, inputs_in, stored_bag}
 use Rattle.mit_step.proofs.Inputs.{same_inputs}
 use Rattle.mit_step.proofs.evaluate.over_bags.Goals as goal
 
@@ -19,7 +19,7 @@ whole_loose-requires-clause-count c =
     let count : c.from.result ≡ bag_inputs_of c.args.op.now = c.from.ensures ∙ c.bag_inputs.ensures in
     let front : c.split_at.result.0.now ≡ take (bag_inputs_of c.args.op.now) c.args.args.now = c.split_at.ensures.front ∙ ap (λ n. take n c.args.args.now) count in
     ap length c.deref.ensures.value ∙ (sym (length-map c.in_ok-bags.bags.items (λ bag. bag.value)) ∙ (ap length c.in_ok-bags.ensures
-    ∙ (length-map c.split_at.result.0.now (bag_in c.args.store.now) ∙ (ap length front ∙ length-take-le (bag_inputs_of c.args.op.now) c.args.args.now c.requires.argued.complete))))
+    ∙ (length-map c.split_at.result.0.now (stored_bag c.args.store.now) ∙ (ap length front ∙ length-take-le (bag_inputs_of c.args.op.now) c.args.args.now c.requires.argued.complete))))
 
 pub whole_loose-requires-clause-fits : goal.whole_loose-requires-clause-fits
 whole_loose-requires-clause-fits c =

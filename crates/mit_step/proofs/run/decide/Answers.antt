@@ -1,14 +1,14 @@
 use Rattle.std.proofs.Common.{◌≡◌, ◌∙◌, ◌+◌, Err, ap, refl, rules, sym, subst}
 use Rattle.mit_ops.specs.Endings.{truth_in}
-use Rattle.mit_script.specs.Execution.{decides, taken}
-use Rattle.mit_step.specs.Running.{Leaves}
+use Rattle.mit_script.specs.Execution.{by_condition, taken}
+use Rattle.mit_step.specs.Running.{LeavesRun}
 use Rattle.mit_step.proofs.Steps.{taken_of}
 use Rattle.mit_step.proofs.run.decide.Goals as goal
 
 pub returns-in_err-bag-clause-answer : goal.returns-in_err-bag-clause-answer
 returns-in_err-bag-clause-answer g c = λ files state next agrees stands.
     let is : c.from_residual.result ≡ Err c.in_err-bag.field-0.0 = search rules in
-    subst (Leaves (decides files c.args.number c.args.op.now c.args.args.now state next) next c.args.run.now) (sym is)
+    subst (LeavesRun (by_condition files c.args.number c.args.op.now c.args.args.now state next) next c.args.run.now) (sym is)
     (c.in_err-bag.ensures.answer files state (λ bag. taken c.args.number state state.left (next (truth_in bag))) agrees stands)
 
 pub returns-clause-answer : goal.returns-clause-answer

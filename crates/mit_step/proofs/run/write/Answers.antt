@@ -2,20 +2,20 @@ use Rattle.std.proofs.Common.{◌≡◌, ◌∙◌, ◌++◌, ◌∷◌, [], ap,
 use Rattle.std.specs.FinMap as fin
 use Rattle.mit_shelf.specs.Printed.{bag_text}
 use Rattle.mit_ops.specs.Operators.{name_written}
-use Rattle.mit_script.specs.Execution.{evaluated, written}
+use Rattle.mit_script.specs.Execution.{after_write, evaluated}
 use Rattle.mit_step.specs.Running.{Faults}
-use Rattle.mit_step.specs.Typing.{bag_in}
+use Rattle.mit_step.specs.Typing.{stored_bag}
 use Rattle.mit_step.proofs.Steps.{stop_given, write_stands, written_given}
 use Rattle.mit_step.proofs.run.write.Goals as goal
 
 pub returns-in-Err-clause-answer : goal.returns-in-Err-clause-answer
 returns-in-Err-clause-answer g c = λ files state agrees stands.
-    subst (Faults (evaluated files c.args.number c.args.op.now c.args.args.now state (written state (name_written c.args.op.now (map state.store c.args.args.now))))) (sym c.stop.ensures)
-    (stop_given files c.args.number c.args.op.now c.args.args.now (written state (name_written c.args.op.now (map state.store c.args.args.now))) c.in-Err.stop stands (c.in-Err.ensures.bag files))
+    subst (Faults (evaluated files c.args.number c.args.op.now c.args.args.now state (after_write state (name_written c.args.op.now (map state.store c.args.args.now))))) (sym c.stop.ensures)
+    (stop_given files c.args.number c.args.op.now c.args.args.now (after_write state (name_written c.args.op.now (map state.store c.args.args.now))) c.in-Err.stop stands (c.in-Err.ensures.bag files))
 
 pub returns-clause-answer : goal.returns-clause-answer
 returns-clause-answer g c = λ files state agrees stands.
-    let bag = bag_in c.args.run.now.store (get_or c.args.args.now 0 0) in
+    let bag = stored_bag c.args.run.now.store (get_or c.args.args.now 0 0) in
     let text : c.in_ok-text.text.items ≡ bag_text bag = c.in_ok-text.ensures ∙ ap bag_text (c.in_ok-bag.ensures ∙ (c.deref.ensures ∙ c.get.ensures)) in
     let put : c.put_owned.new.self ≡ fin.insert c.args.run.now.files c.in-Ok.name c.in_ok-text.text.items =
     c.in_ok-put_owned.ensures.ok ∙ ap (λ name. fin.insert c.args.run.now.files name c.in_ok-text.text.items) c.as_str.ensures.value in (

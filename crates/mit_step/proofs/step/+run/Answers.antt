@@ -6,12 +6,12 @@ use Rattle.std.proofs.lemmas.Result.{on_ok_weaker}
 use Rattle.mit_lex.specs.declared.limits.TheConstants.{MAX_SCRIPT}
 use Rattle.mit_rows.specs.Bags.{BagOf}
 use Rattle.mit_script.specs.Accepted.{with_assigned}
-use Rattle.mit_script.specs.Execution.{Doing, counts, decides, exec_of, goes_on, in_turn, turns}
+use Rattle.mit_script.specs.Execution.{Doing, by_condition, counts, exec_of, goes_on, in_turn, turns}
 use Rattle.mit_script.specs.Trees.{count_of_all}
 use Rattle.mit_script.specs.declared.tree.Stmt.{the_lemmas}
 use Rattle.mit_script.specs.declared.tree.Stmt.TheVariants as stmt
-use Rattle.mit_step.specs.Running.{Leaves}
-use Rattle.mit_step.specs.Typing.{Argued, Holds, IsMade, Ready, inputs_in}
+use Rattle.mit_step.specs.Running.{LeavesRun}
+use Rattle.mit_step.specs.Typing.{Argued, IsMade, Ready, StoreHolds, inputs_in}
 use Rattle.mit_step.proofs.Asking.{asks_more}
 use Rattle.mit_step.proofs.Execs.{count_of-If, count_of-While, exec_of-Assign, exec_of-If, exec_of-Write, exec_of-While}
 use Rattle.mit_step.proofs.Readiness.{ready_assign, ready_first, ready_if, ready_none, ready_while, ready_write}
@@ -36,7 +36,7 @@ run_all-returns-in_err-run_one-clause-answer g t c =
     let left = here c.args.block.now c.loop-stmt.stmt-index c.stmt-item.result c.loop-stmt-test.true c.stmt-item.is in
     let is : c.from_residual.result ≡ Err c.in_err-run_one.field-0.0 = search rules in
     λ files state agrees stands.
-    subst (Leaves (in_turn (map (exec_of files) c.args.block.now) c.args.number state) (λ _. goes_on) c.run_one.new.run) (sym is)
+    subst (LeavesRun (in_turn (map (exec_of files) c.args.block.now) c.args.number state) (λ _. goes_on) c.run_one.new.run) (sym is)
     (reached_stop c.loop-stmt.at c.loop-stmt.shelf c.run_one.new.shelf c.in_err-run_one.field-0.0 left c.loop-stmt.invariant.reached
     c.run_one.ensures.asks.grows c.in_err-run_one.ensures.answer files state agrees stands)
 
@@ -127,7 +127,7 @@ pub run_one-returns-in_err-decide-in-If-clause-answer : goal.run_one-returns-in_
 run_one-returns-in_err-decide-in-If-clause-answer g t c =
     let is : c.from_residual.result ≡ Err c.in_err-decide-in-If.field-0.0 = search rules in
     λ files state agrees stands.
-    subst (Leaves ((exec_of files c.args.stmt.now).does c.args.number state) (λ _. goes_on) c.decide.new.run) (sym is)
+    subst (LeavesRun ((exec_of files c.args.stmt.now).does c.args.number state) (λ _. goes_on) c.decide.new.run) (sym is)
     (leaves_as {A = ⊤} (λ _. goes_on) c.decide.new.run (Err c.in_err-decide-in-If.field-0.0)
     (ap (λ s. (exec_of files s).does c.args.number state) c.in-If.is ∙ ap (λ (doing : Doing). doing.does c.args.number state) (exec_of-If files c.in-If.op c.in-If.args c.in-If.yes c.in-If.no))
     (rw c.as_slice-in-If.ensures at (c.in_err-decide-in-If.ensures.answer files state
@@ -167,7 +167,7 @@ run_one-returns-in-Assign-clause-holds g t c = λ types known after ready.
     let it = ready_assign c.in-Assign.target c.in-Assign.op c.in-Assign.args (subst (λ s. Ready types known after (s ∷ []) c.args.run.now.store) c.in-Assign.is ready) in
     on_ok_weaker c.assign.result
     (λ (put : (bag : BagOf) × (c.assign.new.run.store ≡ set c.args.run.now.store c.in-Assign.target bag) × IsMade c.in-Assign.op (inputs_in c.args.run.now.store c.in-Assign.args) bag).
-    subst (Holds types after) (sym put.1) (it.holds put.0 put.2)) (rw c.as_slice.ensures at c.assign.ensures.put)
+    subst (StoreHolds types after) (sym put.1) (it.holds put.0 put.2)) (rw c.as_slice.ensures at c.assign.ensures.put)
 
 pub run_one-returns-in-Write-clause-answer : goal.run_one-returns-in-Write-clause-answer
 run_one-returns-in-Write-clause-answer g t c = λ files state agrees stands.
@@ -178,7 +178,7 @@ run_one-returns-in-Write-clause-answer g t c = λ files state agrees stands.
 pub run_one-returns-in-Write-clause-holds : goal.run_one-returns-in-Write-clause-holds
 run_one-returns-in-Write-clause-holds g t c = λ types known after ready.
     let it = ready_write c.in-Write.op c.in-Write.args (subst (λ s. Ready types known after (s ∷ []) c.args.run.now.store) c.in-Write.is ready) in
-    on_ok c.write.result (subst (Holds types after) (sym c.write.ensures.store) it.holds)
+    on_ok c.write.result (subst (StoreHolds types after) (sym c.write.ensures.store) it.holds)
 
 pub run_one-returns-then-branch-clause-answer : goal.run_one-returns-then-branch-clause-answer
 run_one-returns-then-branch-clause-answer g t c = λ files state agrees stands.
@@ -245,7 +245,7 @@ pub run_while-returns-in_err-decide-clause-answer : goal.run_while-returns-in_er
 run_while-returns-in_err-decide-clause-answer g t c =
     let is : c.from_residual.result ≡ Err c.in_err-decide.field-0.0 = search rules in
     λ files state agrees stands.
-    subst (Leaves (turns state.left (decides files c.args.number c.args.op.now c.args.args.now) (in_turn (map (exec_of files) c.args.body.now) (c.args.number + 1)) state) (λ _. goes_on) c.decide.new.run) (sym is)
+    subst (LeavesRun (turns state.left (by_condition files c.args.number c.args.op.now c.args.args.now) (in_turn (map (exec_of files) c.args.body.now) (c.args.number + 1)) state) (λ _. goes_on) c.decide.new.run) (sym is)
     (turned_fault c.args.op.now c.args.args.now c.args.body.now c.args.number c.turns.shelf c.decide.new.shelf c.in_err-decide.field-0.0 c.turns.invariant.turned
     c.decide.ensures.asks.grows c.in_err-decide.ensures.answer files state agrees stands)
 
@@ -259,7 +259,7 @@ run_while-returns-then-not-branch-clause-answer g t c = λ files state agrees st
 
 pub run_while-returns-then-not-branch-clause-holds : goal.run_while-returns-then-not-branch-clause-holds
 run_while-returns-then-not-branch-clause-holds g t c = λ types known after ready.
-    subst (Holds types after) (sym c.decide.ensures.store)
+    subst (StoreHolds types after) (sym c.decide.ensures.store)
     (ready_while c.args.op.now c.args.args.now c.args.body.now (c.turns.invariant.ready types known after ready)).holds
 
 pub run_while-returns-then-not-branch-clause-asks : goal.run_while-returns-then-not-branch-clause-asks
@@ -295,7 +295,7 @@ run_while-returns-in_err-run_all-clause-answer g t c =
     let enters = entered c.args.op.now c.args.args.now c.args.body.now c.args.number c.turns.shelf c.decide.new.shelf c.turns.invariant.turned c.decide.ensures.asks.grows
     (λ all now next agree stand. rw c.if-not-branch.false at (c.in_ok-decide.ensures.answer all now next agree stand)) c.in_ok-decide.ensures.taken in
     λ files state agrees stands.
-    subst (Leaves (turns state.left (decides files c.args.number c.args.op.now c.args.args.now) (in_turn (map (exec_of files) c.args.body.now) (c.args.number + 1)) state) (λ _. goes_on) c.run_all.new.run) (sym is)
+    subst (LeavesRun (turns state.left (by_condition files c.args.number c.args.op.now c.args.args.now) (in_turn (map (exec_of files) c.args.body.now) (c.args.number + 1)) state) (λ _. goes_on) c.run_all.new.run) (sym is)
     (turned_stop c.args.op.now c.args.args.now c.args.body.now c.args.number c.decide.new.shelf c.run_all.new.shelf c.turns.run c.in_err-run_all.field-0.0 enters
     c.run_all.ensures.asks.grows c.in_err-run_all.ensures.answer files state agrees stands)
 

@@ -4,20 +4,20 @@ use Rattle.mit_expr.specs.Types.{type_in, type_of_value}
 use Rattle.mit_ops.specs.Answers.{RowsOrKind, at_row, settled}
 use Rattle.mit_ops.specs.EachRow.{row_of_exprs}
 use Rattle.mit_ops.specs.declared.kinds.OpSpec.TheVariants as op
-use Rattle.mit_step.specs.Stepping.{inputs_of}
+use Rattle.mit_step.specs.Stepping.{with_captures}
 use Rattle.mit_step.proofs.Wholes.{captures_are, fits_as, of_kind, one_expr, one_typed}
 use Rattle.mit_step.proofs.whole.of_none.Goals as goal
 
 pub made_row-requires-clause-typed : goal.made_row-requires-clause-typed
 made_row-requires-clause-typed c =
-    let inputs = inputs_of [] c.args.captures.now in
+    let inputs = with_captures [] c.args.captures.now in
     let typed = c.fitting_law.ensures.scalar c.in-Scalar.expr inputs c.args.captures.now (fits_as c.args.spec.now (op.Scalar c.in-Scalar.expr) inputs c.in-Scalar.is c.requires.fits)
     (captures_are (op.Scalar c.in-Scalar.expr) [] c.args.captures.now refl) in
     rw c.from_ref.ensures.value (one_typed (type_in [] (map type_of_value c.args.captures.now) c.in-Scalar.expr) typed)
 
 pub made_row-requires-in-MakeRow-clause-typed : goal.made_row-requires-in-MakeRow-clause-typed
 made_row-requires-in-MakeRow-clause-typed c =
-    let inputs = inputs_of [] c.args.captures.now in
+    let inputs = with_captures [] c.args.captures.now in
     rw c.as_slice.ensures (c.fitting_law.ensures.make_row c.in-MakeRow.exprs inputs c.args.captures.now
     (fits_as c.args.spec.now (op.MakeRow c.in-MakeRow.exprs) inputs c.in-MakeRow.is c.requires.fits) (captures_are (op.MakeRow c.in-MakeRow.exprs) [] c.args.captures.now refl))
 

@@ -6,29 +6,34 @@ use Rattle.mit_ops.specs.EachRow.{filtered, flattened, given, row_of_exprs}
 use Rattle.mit_ops.specs.Operators.{one_value, single}
 use Rattle.mit_ops.specs.Totals.{total}
 use Rattle.mit_ops.specs.declared.kinds.OpSpec.TheVariants as op
-use Rattle.mit_step.specs.Stepping.{inputs_of}
+use Rattle.mit_step.specs.Stepping.{with_captures}
 use Rattle.mit_step.proofs.Wholes.{captures_are, fits_as, of_kind, one_bag, rows_themselves}
 use Rattle.mit_step.proofs.whole.of_one.Goals as goal
 
 pub mapped-requires-clause-typed : goal.mapped-requires-clause-typed
 mapped-requires-clause-typed c =
-    rw c.as_slice.ensures (c.fitting_law.ensures.map c.in-Map.exprs (inputs_of (c.args.rows.now ∷ []) c.args.captures.now) c.args.captures.now
-    (fits_as c.args.spec.now (op.Map c.in-Map.exprs) (inputs_of (c.args.rows.now ∷ []) c.args.captures.now) c.in-Map.is c.requires.fits) (captures_are (op.Map c.in-Map.exprs) (c.args.rows.now ∷ []) c.args.captures.now refl))
+    rw c.as_slice.ensures (c.fitting_law.ensures.map c.in-Map.exprs (with_captures (c.args.rows.now ∷ []) c.args.captures.now) c.args.captures.now
+    (fits_as c.args.spec.now (op.Map c.in-Map.exprs) (with_captures (c.args.rows.now ∷ []) c.args.captures.now) c.in-Map.is c.requires.fits) (captures_are (op.Map c.in-Map.exprs) (c.args.rows.now ∷ []) c.args.captures.now refl))
 
 pub filtered-requires : goal.filtered-requires
 filtered-requires c =
-    (c.fitting_law.ensures.filter c.in-Filter.expr (inputs_of (c.args.rows.now ∷ []) c.args.captures.now) c.args.captures.now
-    (fits_as c.args.spec.now (op.Filter c.in-Filter.expr) (inputs_of (c.args.rows.now ∷ []) c.args.captures.now) c.in-Filter.is c.requires.fits) (captures_are (op.Filter c.in-Filter.expr) (c.args.rows.now ∷ []) c.args.captures.now refl))
+    (c.fitting_law.ensures.filter c.in-Filter.expr (with_captures (c.args.rows.now ∷ []) c.args.captures.now) c.args.captures.now
+    (fits_as c.args.spec.now (op.Filter c.in-Filter.expr) (with_captures (c.args.rows.now ∷ []) c.args.captures.now) c.in-Filter.is c.requires.fits) (captures_are (op.Filter c.in-Filter.expr) (c.args.rows.now ∷ []) c.args.captures.now refl))
 
 pub flattened-requires-clause-typed : goal.flattened-requires-clause-typed
 flattened-requires-clause-typed c =
-    (c.fitting_law.ensures.flat c.in-FlatMap.flat (inputs_of (c.args.rows.now ∷ []) c.args.captures.now) c.args.captures.now
-    (fits_as c.args.spec.now (op.FlatMap c.in-FlatMap.flat) (inputs_of (c.args.rows.now ∷ []) c.args.captures.now) c.in-FlatMap.is c.requires.fits) (captures_are (op.FlatMap c.in-FlatMap.flat) (c.args.rows.now ∷ []) c.args.captures.now refl))
+    (c.fitting_law.ensures.flat c.in-FlatMap.flat (with_captures (c.args.rows.now ∷ []) c.args.captures.now) c.args.captures.now
+    (fits_as c.args.spec.now (op.FlatMap c.in-FlatMap.flat) (with_captures (c.args.rows.now ∷ []) c.args.captures.now) c.in-FlatMap.is c.requires.fits) (captures_are (op.FlatMap c.in-FlatMap.flat) (c.args.rows.now ∷ []) c.args.captures.now refl))
 
-pub reduced-requires-clause-there : goal.reduced-requires-clause-there
-reduced-requires-clause-there c some among =
-    c.fitting_groups_law.ensures.reduce c.in-Reduce.keys c.in-Reduce.agg (inputs_of (c.args.rows.now ∷ []) c.args.captures.now) some
-    (fits_as c.args.spec.now (op.Reduce c.in-Reduce.keys c.in-Reduce.agg) (inputs_of (c.args.rows.now ∷ []) c.args.captures.now) c.in-Reduce.is c.requires.fits) among
+pub reduced-requires : goal.reduced-requires
+reduced-requires c =
+    rw c.as_slice-in-Reduce.ensures (c.groups_law.ensures.give c.in-Reduce.keys c.in-Reduce.agg (with_captures (c.args.rows.now ∷ []) c.args.captures.now)
+    (fits_as c.args.spec.now (op.Reduce c.in-Reduce.keys c.in-Reduce.agg) (with_captures (c.args.rows.now ∷ []) c.args.captures.now) c.in-Reduce.is c.requires.fits))
+
+pub distinct-requires : goal.distinct-requires
+distinct-requires c =
+    c.distinct_law.ensures.narrow (with_captures (c.args.rows.now ∷ []) c.args.captures.now)
+    (fits_as c.args.spec.now op.Distinct (with_captures (c.args.rows.now ∷ []) c.args.captures.now) c.in-Distinct.is c.requires.fits)
 
 pub returns-in_ok-mapped-in-Map : goal.returns-in_ok-mapped-in-Map
 returns-in_ok-mapped-in-Map c =
@@ -40,10 +45,11 @@ returns-in_ok-filtered-in-Filter c =
     of_kind c.args.spec.now (op.Filter c.in-Filter.expr) (c.args.rows.now ∷ []) c.args.captures.now c.in_ok-filtered-in-Filter.field-0 c.settle-in-Filter.result c.in-Filter.is refl
     (c.in_ok-filtered-in-Filter.ensures ∙ ap (over (λ (row : RowOf). at_row row (filtered c.args.captures.now c.in-Filter.expr row))) (sym (one_bag c.args.rows.now))) c.settle-in-Filter.ensures
 
-pub returns-in_ok-flattened-in-FlatMap : goal.returns-in_ok-flattened-in-FlatMap
-returns-in_ok-flattened-in-FlatMap c =
-    of_kind c.args.spec.now (op.FlatMap c.in-FlatMap.flat) (c.args.rows.now ∷ []) c.args.captures.now c.in_ok-flattened-in-FlatMap.field-0 c.settle-in-FlatMap.result c.in-FlatMap.is refl
-    (c.in_ok-flattened-in-FlatMap.ensures ∙ ap (over (λ (row : RowOf). at_row row (flattened c.args.captures.now c.in-FlatMap.flat row))) (sym (one_bag c.args.rows.now))) c.settle-in-FlatMap.ensures
+pub returns-in-FlatMap : goal.returns-in-FlatMap
+returns-in-FlatMap c =
+    let given = over (λ (row : RowOf). at_row row (flattened c.args.captures.now c.in-FlatMap.flat row)) in
+    of_kind c.args.spec.now (op.FlatMap c.in-FlatMap.flat) (c.args.rows.now ∷ []) c.args.captures.now (given c.args.rows.now) c.flattened.result c.in-FlatMap.is refl
+    (ap given (sym (one_bag c.args.rows.now))) c.flattened.ensures
 
 pub returns-in_ok-reduced-in-Reduce : goal.returns-in_ok-reduced-in-Reduce
 returns-in_ok-reduced-in-Reduce c =

@@ -2,27 +2,27 @@ use Rattle.std.proofs.Common.{◌∙◌, List, map, subst, sym}
 use Rattle.std.specs.FinMap as fin
 use Rattle.mit_rows.specs.Bags.{BagOf}
 use Rattle.mit_ops.specs.Operators.{whole}
-use Rattle.mit_step.specs.Stepping.{GivesWhole, inputs_of}
+use Rattle.mit_step.specs.Stepping.{GivesWhole, with_captures}
 use Rattle.mit_step.proofs.Orders.{map_none, map_one, map_two}
 use Rattle.mit_step.proofs.whole.whole_bag.Goals as goal
 
 pub returns-in-empty : goal.returns-in-empty
 returns-in-empty c =
-    c.in_order.ensures (whole c.args.spec.now (inputs_of (map (λ bag. bag.value) c.args.bags.now) c.args.captures.now) fin.empty)
-    (subst (λ (bags : List BagOf). GivesWhole (whole c.args.spec.now (inputs_of bags c.args.captures.now) fin.empty) c.of_none.result)
+    c.in_order.ensures (whole c.args.spec.now (with_captures (map (λ bag. bag.value) c.args.bags.now) c.args.captures.now) fin.empty)
+    (subst (λ (bags : List BagOf). GivesWhole (whole c.args.spec.now (with_captures bags c.args.captures.now) fin.empty) c.of_none.result)
     (sym (map_none (λ bag. bag.value) c.args.bags.now c.in-empty.len_below)) c.of_none.ensures)
 
 pub returns-in-len1 : goal.returns-in-len1
 returns-in-len1 c =
-    c.in_order-in-len1.ensures (whole c.args.spec.now (inputs_of (map (λ bag. bag.value) c.args.bags.now) c.args.captures.now) fin.empty)
-    (subst (λ (bags : List BagOf). GivesWhole (whole c.args.spec.now (inputs_of bags c.args.captures.now) fin.empty) c.of_one.result)
+    c.in_order-in-len1.ensures (whole c.args.spec.now (with_captures (map (λ bag. bag.value) c.args.bags.now) c.args.captures.now) fin.empty)
+    (subst (λ (bags : List BagOf). GivesWhole (whole c.args.spec.now (with_captures bags c.args.captures.now) fin.empty) c.of_one.result)
     (sym (map_one (λ bag. bag.value) c.args.bags.now c.bag-item.result c.rows.result.now c.in-len1.len_at_least c.in-len1.len_below c.bag-item.is (c.rows.ensures.value ∙ c.deref.ensures)))
     c.of_one.ensures)
 
 pub returns-in-len2 : goal.returns-in-len2
 returns-in-len2 c =
-    c.in_order-in-len2.ensures (whole c.args.spec.now (inputs_of (map (λ bag. bag.value) c.args.bags.now) c.args.captures.now) fin.empty)
-    (subst (λ (bags : List BagOf). GivesWhole (whole c.args.spec.now (inputs_of bags c.args.captures.now) fin.empty) c.of_two.result)
+    c.in_order-in-len2.ensures (whole c.args.spec.now (with_captures (map (λ bag. bag.value) c.args.bags.now) c.args.captures.now) fin.empty)
+    (subst (λ (bags : List BagOf). GivesWhole (whole c.args.spec.now (with_captures bags c.args.captures.now) fin.empty) c.of_two.result)
     (sym (map_two (λ bag. bag.value) c.args.bags.now c.left-item.result c.right-item.result c.rows-in-len2.result.now c.rows-in-len2-2.result.now c.in-len2.len_at_least c.in-len2.len_below
     c.left-item.is c.right-item.is (c.rows-in-len2.ensures.value ∙ c.deref-in-len2.ensures) (c.rows-in-len2-2.ensures.value ∙ c.deref-in-len2-2.ensures)))
     c.of_two.ensures)

@@ -1,6 +1,6 @@
 use Rattle.std.proofs.Common.{◌≡◌, ◌++◌, take}
 use Rattle.std.specs.List.{flat_map}
-use Rattle.mit_k_join.specs.Indexes.{matches_of}
+use Rattle.mit_keyed.specs.Indexes.{matches_of}
 use Rattle.mit_k_join.proofs.slot.JoinSlot.add_all.Given as goal
 
 abbrev pub invariant-loop-right : goal.invariant-loop-right

@@ -1,9 +1,7 @@
-use Rattle.std.proofs.Common.{◌≡◌, map, take}
-use Rattle.mit_ops.specs.Answers.{over}
-use Rattle.mit_ops.specs.Forms.{once_each}
-use Rattle.mit_ops.specs.Keys.{key_of}
-use Rattle.mit_step.proofs.Reductions.{of_key}
+use Rattle.std.proofs.Common.{◌≡◌, take}
+use Rattle.mit_keyed.specs.Groups.{grouped}
 use Rattle.mit_step.proofs.whole.groups.reduced.Given as goal
 
-abbrev pub invariant-loop-number : goal.invariant-loop-number
-invariant-loop-number l = l.answer ≡ over (of_key l.keys l.fn.agg l.rows) (take l.number (once_each (map (key_of l.keys) l.rows)))
+-- the totals of the rows so far
+abbrev pub invariant-loop-row : goal.invariant-loop-row
+invariant-loop-row l = l.totals.entries ≡ grouped l.keys l.agg (take l.row-index l.rows)

@@ -1,11 +1,14 @@
-use Rattle.std.proofs.Common.{◌∙◌, sym}
-use Rattle.mit_step.proofs.Sums.{over_start, over_step}
+use Rattle.std.proofs.Common.{◌∙◌, [], Ok, ap}
+use Rattle.std.specs.FinMap as fin
+use Rattle.std.specs.List.{flat_map}
+use Rattle.std.proofs.lemmas.List.{take_all}
+use Rattle.mit_rows.specs.Bags.{bag_of}
+use Rattle.mit_keyed.specs.Indexes.{matches_of}
 use Rattle.mit_step.proofs.whole.join.joined_rows.Goals as goal
 
-pub loop-row-init : goal.loop-row-init
-loop-row-init c = c.new-answer.ensures ∙ sym (over_start _)
-
-pub loop-row-preserved : goal.loop-row-preserved
-loop-row-preserved c =
-    over_step _ c.args.rights.now c.loop-row.row-index c.row-item.result c.loop-row.answer c.add_joined.new.answer c.answers_add_up.ensures.more
-    c.loop-row-test.true c.row-item.is c.loop-row.invariant c.in_ok-add_joined.ensures
+pub returns : goal.returns
+returns c =
+    let matched = matches_of c.args.left.now c.args.right.now c.args.lefts.now in
+    let all = take_all c.loop-row.row-index c.args.rights.now c.loop-row-test.false in
+    ap Ok (c.from_rows.ensures ∙ ap bag_of (c.loop-row.invariant ∙ ap (flat_map matched) all))
+    ∙ c.index_law.ensures.whole c.args.left.now c.args.right.now c.args.lefts.now c.args.rights.now fin.empty []

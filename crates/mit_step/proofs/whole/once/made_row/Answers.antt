@@ -5,4 +5,4 @@ use Rattle.mit_step.proofs.whole.once.made_row.Goals as goal
 pub returns : goal.returns
 returns c =
     c.stopped.ensures (row_of_exprs c.args.captures.now c.args.exprs.now [])
-    (rw (c.from_values-nothing.ensures, c.new.ensures.items) at c.in-Err.ensures.err)
+    (rw c.empty-nothing.ensures at c.in-Err.ensures.err)

@@ -1,6 +1,8 @@
-use Rattle.std.proofs.Common.{◌∙◌, sym}
-use Rattle.mit_step.proofs.Sums.{over_start}
+use Rattle.std.proofs.Common.{refl}
+use Rattle.mit_rows.specs.Bags.{bag_of}
+use Rattle.mit_ops.specs.Answers.{over}
 use Rattle.mit_step.proofs.whole.rows.flattened.Goals as goal
 
 pub loop-row-init : goal.loop-row-init
-loop-row-init c = c.new-answer.ensures ∙ sym (over_start _)
+unfolding over bag_of
+loop-row-init c = rw (c.new-faults.ensures, c.new-made.ensures.items) (refl, refl)

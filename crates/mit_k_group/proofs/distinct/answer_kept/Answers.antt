@@ -1,6 +1,0 @@
-use Rattle.mit_ops.specs.Answers.{over}
-use Rattle.mit_k_group.proofs.distinct.answer_kept.Goals as goal
-
-pub loop-key-init : goal.loop-key-init
-unfolding over
-loop-key-init c = c.new-answer.ensures

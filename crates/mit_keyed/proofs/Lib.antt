@@ -1,0 +1,5 @@
+pub mod Grouping
+pub mod Making
+pub mod Fitting
+pub mod Indexing
+pub mod Matching

@@ -1,0 +1,6 @@
+use Rattle.mit_ops.specs.Answers.{over}
+use Rattle.mit_keyed.proofs.reduce.answer_groups.Goals as goal
+
+pub loop-key-init : goal.loop-key-init
+unfolding over
+loop-key-init c = c.new-answer.ensures
