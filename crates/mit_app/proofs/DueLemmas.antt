@@ -4,16 +4,17 @@ use Rattle.std.specs.Prelude.{◌⊎◌, Bool, true, false, codes, Option, Some,
 use Rattle.std.specs.FinMap as fin
 use Rattle.mit_rows.specs.Integers.{magnitude}
 use Rattle.mit_world.specs.Files.{FileMap}
+use Rattle.mit_world.specs.Outside.{AsksAtMost}
 use Rattle.mit_ops.specs.declared.types.VarType.{VarType}
 use Rattle.mit_script.specs.Accepted.{checked}
 use Rattle.mit_script.specs.declared.tree.Script.{Script}
 use Rattle.mit_script.specs.declared.typed.CheckCode.{CheckCode}
 use Rattle.mit_parse.specs.Places.{IsRefusedAt}
 use Rattle.mit_script.specs.Grammar.{IsSpelled}
-use Rattle.mit_engine.specs.Thin.{actions_of}
+use Rattle.mit_engine.specs.Thin.{action_count}
 use Rattle.mit_engine.specs.declared.thin.ThinStep.{ThinStep}
-use Rattle.mit_app.specs.Due.{Accepted, AreActions, AreDecisions, AreWordsFor, Due, DueFor, Found, IsCommand, IsFound, IsFoundIn, IsUsage, Misspelled, Missing, Rejected, RunsIn, Verdict, verdict_for}
-use Rattle.mit_app.specs.Ends.{Counted}
+use Rattle.mit_app.specs.Due.{Accepted, AreActions, AreDecisions, AreWordsFor, Due, DueFor, Found, IsCheckOrPlan, IsCommand, IsFound, IsFoundIn, IsUsage, Misspelled, Missing, Rejected, RunsIn, Verdict, verdict_for}
+use Rattle.mit_app.specs.Ends.{Counted, IsShowing}
 use Rattle.mit_app.specs.ThinScript.{thin_steps}
 use Rattle.mit_app.specs.declared.words.Task.{Task}
 use Rattle.mit_app.specs.declared.words.Task.TheVariants.{Run, Step, Check, Plan}
@@ -165,6 +166,22 @@ command_once words Plan (Step d) a b x y = absurd (step_or_plan words d b a y.0 
 command_once words Plan (Check shown) a b x y = absurd (check_or_plan words shown b a y.0 x.0)
 command_once words Plan Plan a b x y = let e = sym x.0 ∙ y.0 in (refl, cc)
 
+-- words that ask for a check or a plan of a script are the command of a task that shows, with that script
+showing_command : (words : List (List ℕ)) (task : Task) (name script : List ℕ) → IsCommand words task name → IsCheckOrPlan words script → IsShowing task × (name ≡ script)
+showing_command words task name script command (inl check) =
+    let same = command_once words task (Check check.0) name script command check.1 in
+    (subst (λ (t : Task). IsShowing t) (sym same.0) tt, same.1)
+showing_command words task name script command (inr plan) =
+    let same = command_once words task Plan name script command plan in
+    (subst (λ (t : Task). IsShowing t) (sym same.0) tt, same.1)
+
+-- so the folder is asked for that script at most, where such tasks ask for theirs at most
+pub asks_for_script : (words : List (List ℕ)) (task : Task) (name script : List ℕ) (before now : Option (List (List ℕ))) → IsCommand words task name
+    → (IsShowing task → AsksAtMost name before now) → IsCheckOrPlan words script → AsksAtMost script before now
+asks_for_script words task name script before now command asks looks =
+    let shows = showing_command words task name script command looks in
+    subst (λ (n : List ℕ). AsksAtMost n before now) shows.1 (asks shows.0)
+
 -- what is due for the task and the name of a command is what is due over its words
 once : (words : List (List ℕ)) (files : FileMap) (task : Task) (name : List ℕ) (v w : Verdict) → IsRead → IsCommand words task name → DueFor task name files v
     → Due words files w → v ≡ w
@@ -182,10 +199,10 @@ due_once words files v w read (inr x) y = once words files x.0 x.1 v w read x.2 
 
 actions_at : Option (List ThinStep) → ℕ
 actions_at None = 0
-actions_at (Some steps) = actions_of steps
+actions_at (Some steps) = action_count steps
 
 -- whatever a script is, its actions are counted
-pub any_actions : (script : Script) → (actions : ℕ) × ((steps : List ThinStep) → thin_steps script ≡ Some steps → actions ≡ actions_of steps)
+pub any_actions : (script : Script) → (actions : ℕ) × ((steps : List ThinStep) → thin_steps script ≡ Some steps → actions ≡ action_count steps)
 unfolding actions_at
 any_actions script = (actions_at (thin_steps script), λ steps is. ap actions_at is)
 

@@ -7,7 +7,7 @@ use Rattle.mit_world.specs.Files.{FileMap}
 use Rattle.mit_world.specs.Outside.{Held}
 use Rattle.mit_engine.specs.Job.{AnswersEnding}
 use Rattle.mit_engine.specs.Thin as thin
-use Rattle.mit_engine.specs.Thin.{actions_of}
+use Rattle.mit_engine.specs.Thin.{action_count}
 use Rattle.mit_engine.specs.declared.thin.Done.{Done}
 use Rattle.mit_engine.specs.declared.thin.ThinStep.{ThinStep}
 use Rattle.mit_ops.specs.Endings.{Ending, finished, stopped}
@@ -25,8 +25,8 @@ use Rattle.mit_shelf.specs.declared.stop.Stop.TheVariants as stop
 use Rattle.mit_step.specs.Stepping.{EndsAs}
 use Rattle.mit_step.specs.declared.step.Stepped.{Stepped}
 use Rattle.mit_app.specs.Answers.{Gains, Stages}
-use Rattle.mit_app.specs.Due.{Accepted, Blocks, Decisions, Found, IsFound, IsFoundIn, Misspelled, Missing, Publishes, Refused, Rejected, Shows, Tally, ending_verdict, is_large, run_verdict, task_verdict, verdict_for}
-use Rattle.mit_app.specs.Ends.{Ends, EndsStaging, FindsAs, IfOutsideFailed, PublishesAs, PutsAs, FindsIn, Reports, RunsAs, ShowsAs, ShowsText, StagesFront, StopsStaging}
+use Rattle.mit_app.specs.Due.{Accepted, Blocks, Decisions, Found, IsFound, IsFoundIn, Misspelled, Missing, Publishes, Refused, Rejected, Shows, Tally, ending_verdict, is_too_large, run_verdict, task_verdict, verdict_for}
+use Rattle.mit_app.specs.Ends.{Ends, EndsStaging, FindsAs, IfOutsideFailed, PublishesAs, PutsAs, FindsIn, ReportsTask, RunsAs, ShowsAs, ShowsText, StagesFront, StopsStaging}
 use Rattle.mit_app.specs.Lines.{report_line, step_line}
 use Rattle.mit_app.specs.ThinScript.{thin_steps}
 use Rattle.mit_app.specs.declared.ends.Halt.{Halt}
@@ -103,19 +103,19 @@ same_steps : (one other : List ThinStep) → Some one ≡ Some other → one ≡
 same_steps one other e = cc
 
 -- what is due for a thin script is the ending of its steps
-thin_due : (script : Script) (types : List VarType) (files : FileMap) (steps : List ThinStep) (ending : thin.Ending) → thin_steps script ≡ Some steps
-    → all.exec script files DECISIONS ≡ all_of_thin (thin.exec files steps) → thin.exec files steps ≡ ending
+thin_due : (script : Script) (types : List VarType) (files : FileMap) (steps : List ThinStep) (ending : thin.ThinEnding) → thin_steps script ≡ Some steps
+    → all.exec script files DECISIONS ≡ all_of_thin (thin.exec_thin files steps) → thin.exec_thin files steps ≡ ending
     → task_verdict Run files script types ≡ ending_verdict (λ used. Blocks 1) (all_of_thin ending)
 thin_due script types files steps ending gives means is = ap (run_verdict files script) gives ∙ ap (ending_verdict (λ used. Blocks 1)) (means ∙ ap all_of_thin is)
 
 pub ended_runs : (script : Script) (types : List VarType) (files : FileMap) (steps : List ThinStep) (done : Done) (ran : Ran) → thin_steps script ≡ Some steps
-    → all.exec script files DECISIONS ≡ all_of_thin (thin.exec files steps) → AnswersEnding steps (thin.exec files steps) (Ok done)
+    → all.exec script files DECISIONS ≡ all_of_thin (thin.exec_thin files steps) → AnswersEnding steps (thin.exec_thin files steps) (Ok done)
     → ran.files ≡ done.files → string_bytes ran.report ≡ report_line (fin.len done.files) done.blocks done.actions → RunsAs Run script types files (Ok ran)
 ended_runs script types files steps done ran gives means answer same told = record {
   tally = Blocks 1;
   due = thin_due script types files steps (thin.Finished answer.0) gives means answer.1 ∙ ap (λ (m : FileMap). Publishes m (Blocks 1)) (sym answer.2 ∙ sym same);
   actions = done.actions;
-  counted = λ other is. answer.4 ∙ ap actions_of (same_steps steps other (sym gives ∙ is));
+  counted = λ other is. answer.4 ∙ ap action_count (same_steps steps other (sym gives ∙ is));
   text = told ∙ ap (λ (blocks : ℕ). report_line (fin.len done.files) blocks done.actions) answer.3
       ∙ ap (λ (m : FileMap). report_line (fin.len m) 1 done.actions) (sym same);
 }
@@ -125,8 +125,8 @@ fault_alike : (fault : ScriptFault) → fault.decisions ≡ 0 → record { state
 fault_alike fault none = ap (λ (d : ℕ). record { statement = fault.statement; decisions = d; kind = fault.kind }) (sym none)
 
 pub faulty_runs : (script : Script) (types : List VarType) (files : FileMap) (steps : List ThinStep) (fault : ScriptFault) → thin_steps script ≡ Some steps
-    → all.exec script files DECISIONS ≡ all_of_thin (thin.exec files steps)
-    → (thin.exec files steps ≡ thin.Faulted fault.statement fault.kind) × (fault.decisions ≡ 0) → RunsAs Run script types files (Err (halt.Refused (refusal.Fault fault)))
+    → all.exec script files DECISIONS ≡ all_of_thin (thin.exec_thin files steps)
+    → (thin.exec_thin files steps ≡ thin.Faulted fault.statement fault.kind) × (fault.decisions ≡ 0) → RunsAs Run script types files (Err (halt.Refused (refusal.Fault fault)))
 faulty_runs script types files steps fault gives means answer =
     thin_due script types files steps (thin.Faulted fault.statement fault.kind) gives means answer.0
     ∙ ap (λ (f : ScriptFault). Refused (refusal.Fault f)) (fault_alike fault answer.1)
@@ -165,7 +165,7 @@ running_ends held task name files outbox written script types (halt.Failed outsi
 -- ---- publishing
 
 staging : (task : Task) (name : List ℕ) (files : FileMap) (script : Script) (types : List VarType) (published : FileMap) (report : List ℕ) (Stopped : FileMap → List ℕ → Type 0)
-    → IsFound files name (Accepted script types) → Reports task script types files published report → Stopped published report → EndsStaging task name files Stopped
+    → IsFound files name (Accepted script types) → ReportsTask task script types files published report → Stopped published report → EndsStaging task name files Stopped
 staging task name files script types published report Stopped found reports halts = record {
   published = published;
   tally = reports.tally;
@@ -270,7 +270,7 @@ usage_apart task name files (Rejected statement code) e = cc
 usage_apart Run name files (Accepted script types) e = run_apart files script (thin_steps script) e
 usage_apart (Step decisions) name files (Accepted script types) e = ended_apart Decisions (all.exec script files decisions) e
 usage_apart (Check shown) name files (Accepted script types) e = cc
-usage_apart Plan name files (Accepted script types) e = plan_apart (is_large (plan_for script types)) (plan_text (plan_for script types)) e
+usage_apart Plan name files (Accepted script types) e = plan_apart (is_too_large (plan_for script types)) (plan_text (plan_for script types)) e
 
 -- so a task never ends with the status 2
 pub halted_apart : {O : Type 0} (held : O → Option Held) (task : Task) (name : List ℕ) (files : FileMap) (status : ℕ) (old new : O) (written mid : Option (List ℕ)) (h : Halt)

@@ -22,7 +22,7 @@ use Rattle.mit_ops.specs.Results.{bag, result, same_types, too_large, too_many_c
 use Rattle.mit_ops.specs.declared.kinds.OpSpec.{OpSpec}
 use Rattle.mit_ops.specs.declared.kinds.OpSpec.TheVariants as kind
 use Rattle.mit_ops.specs.declared.types.VarType.{VarType}
-use Rattle.mit_script.specs.Accepted.{Check, Known, and_then, assigned_by, assigning, at_start, bag_types, check_of, check_step, checked, fault_at, fault_or, first_type, type_or_unset, in_order, is_assigned, is_kept, judged, passed, type_of, typed_or_code, written_by}
+use Rattle.mit_script.specs.Accepted.{Check, Known, and_then, assigned_by, assigning, at_start, bag_types, check_of, check_step, checked, fault_here, fault_or, first_type, type_or_unset, in_order, is_assigned, is_kept, judged, passed, type_of, typed_or_code, written_by}
 use Rattle.mit_script.specs.Trees.{Head, IsFormed, IsFormedHead, IsNumbered, assigns, head_step, heads_in, is_in_order, variables_of, writes}
 use Rattle.mit_script.specs.declared.tree.Script.{Script}
 use Rattle.mit_script.specs.declared.tree.Stmt.{Stmt, out-Stmt}
@@ -37,7 +37,7 @@ use Rattle.mit_engine.specs.Thin.{FormedFrom, IsFormedThin, MayAssign, columns_a
 use Rattle.mit_engine.specs.declared.thin.TheConstants.{MAX_STATEMENTS}
 use Rattle.mit_engine.specs.declared.thin.ThinStep.{ThinStep}
 use Rattle.mit_engine.specs.declared.thin.ThinStep.TheVariants as step
-use Rattle.mit_app.specs.ThinScript.{assigned_step, before_steps, is_read, name_of, name_of_layer, name_of_value, step_of, step_of_layer, steps_of, thin_steps, written_step}
+use Rattle.mit_app.specs.ThinScript.{assigned_step, before_steps, is_read, name_of, name_of_layer, name_of_value, step_of_layer, steps_of, thin_step_of, thin_steps, written_step}
 
 -- ---- options and tests
 
@@ -321,11 +321,11 @@ record Kept (known : Known) (target : ℕ) (found : Result VarType CheckCode) (a
 
 -- an assignment that passes has a type that is kept
 kept_from : (known : Known) (target : ℕ) (found : Result VarType CheckCode) (after : Known)
-    → and_then (fault_or known found) (λ type. if is_kept (first_type known target) type then Ok (assigning target type known) else Err (fault_at known code.WrongType)) ≡ Ok after
+    → and_then (fault_or known found) (λ type. if is_kept (first_type known target) type then Ok (assigning target type known) else Err (fault_here known code.WrongType)) ≡ Ok after
     → Kept known target found after
 kept_from known target (Err why) after is = absurd cc
 kept_from known target (Ok type) after is =
-    let both = ok_by (is_kept (first_type known target) type) (assigning target type known) after (fault_at known code.WrongType) is in
+    let both = ok_by (is_kept (first_type known target) type) (assigning target type known) after (fault_here known code.WrongType) is in
     record { type = type; is = refl; kept = both.0; gives = both.1 }
 
 -- what is so after an assignment
@@ -486,7 +486,7 @@ layer_next variables columns known after (stmt.While operator args body) rest on
 statement_next : (variables : ℕ) (columns : List ℕ) (known after : Known) (statement : Stmt) (rest : List ℕ) (one : ThinStep)
     → Agrees variables known columns → All (IsFormedHead variables) (heads_in statement)
     → is_in_order (length columns) (flat_map variables_of (heads_in statement) ++ rest) ≡ true
-    → check_of statement known ≡ Ok after → step_of statement ≡ Some one → Next variables columns one after rest
+    → check_of statement known ≡ Ok after → thin_step_of statement ≡ Some one → Next variables columns one after rest
 statement_next variables columns known after statement rest one now all ordered is gives =
     let same = roll-out-Stmt statement in
     layer_next variables columns known after (out-Stmt statement) rest one now
@@ -513,7 +513,7 @@ body_formed : (variables : ℕ) (columns : List ℕ) (known last : Known) (body 
 unfolding FormedFrom
 body_formed variables columns known last [] steps now all ordered is gives = subst (FormedFrom columns) (same_Some [] steps gives) tt
 body_formed variables columns known last (first ∷ more) steps now all ordered is gives =
-    let parts = before_from (step_of first) (steps_of more) steps gives in
+    let parts = before_from (thin_step_of first) (steps_of more) steps gives in
     let pass = and_from (check_of first known) (in_order (map check_of more)) last is in
     let order = subst (λ (vs : List ℕ). is_in_order (length columns) vs ≡ true) (flat_map-append variables_of (heads_in first) (flat_map heads_in more)) ordered in
     let next = statement_next variables columns known pass.0 first (flat_map variables_of (flat_map heads_in more)) parts.0 now
@@ -526,7 +526,7 @@ body_formed variables columns known last (first ∷ more) steps now all ordered 
 steps_long : (body : List Stmt) (steps : List ThinStep) → steps_of body ≡ Some steps → length steps ≡ length body
 steps_long [] steps is = ap length (sym (same_Some [] steps is))
 steps_long (first ∷ more) steps is =
-    let parts = before_from (step_of first) (steps_of more) steps is in
+    let parts = before_from (thin_step_of first) (steps_of more) steps is in
     ap length (sym parts.4) ∙ ap suc (steps_long more parts.1 parts.3)
 
 -- at the start nothing is assigned

@@ -30,7 +30,7 @@ use Rattle.mit_ops.specs.declared.kinds.OpSpec.TheVariants as kind
 use Rattle.mit_ops.specs.declared.types.VarType.{VarType}
 use Rattle.mit_script.specs.Accepted.{checked}
 use Rattle.mit_script.specs.Execution as all
-use Rattle.mit_script.specs.Execution.{Doing, Ended, State, Store, and_then, assigned, evaluated, exec_of, exec_step, in_turn, put, with_bag}
+use Rattle.mit_script.specs.Execution.{Doing, Ended, ScriptState, Store, assigned, evaluated, exec_of, exec_step, if_goes_on, in_turn, put, with_bag}
 use Rattle.mit_script.specs.Trees as head
 use Rattle.mit_script.specs.Trees.{Head, IsFormed, IsFormedHead, IsNumbered, head_step, heads_in}
 use Rattle.mit_script.specs.declared.tree.Script.{Script}
@@ -44,17 +44,17 @@ use Rattle.mit_shelf.specs.Printed.{Write}
 use Rattle.mit_shelf.specs.Rows.{rows_of}
 use Rattle.mit_engine.specs.Reads.{bag_of_file, bag_of_rows, integers, read_bag}
 use Rattle.mit_engine.specs.Thin as thin
-use Rattle.mit_engine.specs.Thin.{FormedFrom, MayAssign, after_read, assign, bag_in, columns_after, exec_from}
+use Rattle.mit_engine.specs.Thin.{FormedFrom, MayAssign, after_read, columns_after, exec_from, item_put, variable_bag}
 use Rattle.mit_engine.specs.declared.thin.TheConstants.{MAX_STATEMENTS}
 use Rattle.mit_engine.specs.declared.thin.ThinStep.{ThinStep}
 use Rattle.mit_engine.specs.declared.thin.ThinStep.TheVariants as step
-use Rattle.mit_app.specs.ThinScript.{argument_at, assigned_step, is_read, name_of, name_of_layer, name_of_value, step_of, step_of_layer, steps_of, thin_steps, written_step}
+use Rattle.mit_app.specs.ThinScript.{argument_at, assigned_step, is_read, name_of, name_of_layer, name_of_value, step_of_layer, steps_of, thin_step_of, thin_steps, written_step}
 use Rattle.mit_app.proofs.ThinLemmas.{all_back, all_front, before_from, columns_grow, columns_kept, given_by, mapped_from, same_Some, thin_formed}
 
 -- ---- endings
 
 -- how a thin script ends, as the interpreter of all scripts says it: no decision is taken
-abbrev pub all_of_thin : thin.Ending → Ending
+abbrev pub all_of_thin : thin.ThinEnding → Ending
 all_of_thin (thin.Finished writes) = finished writes 0
 all_of_thin (thin.Faulted statement kind) = stopped (record { statement = statement; decisions = 0; kind = kind })
 
@@ -155,44 +155,44 @@ other_chosen : {A : Type 0} (a b : ℕ) (x y : A) → a ≢ b → (if a == b the
 other_chosen a b x y n = ap (λ test. if test then x else y) (ne_eqb a b n)
 
 -- an assignment writes over an old bag, or adds a new one
-assign_old : (bags : List BagOf) (target : ℕ) (bag : BagOf) → target < length bags → assign bags target bag ≡ slice_set bags target bag
+assign_old : (bags : List BagOf) (target : ℕ) (bag : BagOf) → target < length bags → item_put bags target bag ≡ slice_set bags target bag
 assign_old bags target bag below = ap (λ test. if test then slice_set bags target bag else bags ++ bag ∷ []) (lt-ltb target (length bags) below)
 
-assign_new : (bags : List BagOf) (target : ℕ) (bag : BagOf) → target ≡ length bags → assign bags target bag ≡ bags ++ bag ∷ []
+assign_new : (bags : List BagOf) (target : ℕ) (bag : BagOf) → target ≡ length bags → item_put bags target bag ≡ bags ++ bag ∷ []
 assign_new bags target bag new = ap (λ test. if test then slice_set bags target bag else bags ++ bag ∷ []) (le-ltb target (length bags) (omega arith))
 
 -- the bag of each variable after both
 set_bag : (bags : List BagOf) (target variable : ℕ) (bag : BagOf) → target < length bags
-    → bag_in (slice_set bags target bag) variable ≡ (if variable == target then bag else bag_in bags variable)
+    → variable_bag (slice_set bags target bag) variable ≡ (if variable == target then bag else variable_bag bags variable)
 set_bag bags target variable bag below = elim (cases_eq variable target) [
-  | inl e ↦ ap (bag_in (slice_set bags target bag)) e ∙ get_or-set_same bags target bag [] below
-      ∙ sym (same_chosen variable target bag (bag_in bags variable) e)
-  | inr n ↦ get_or-set_other bags target variable bag [] n ∙ sym (other_chosen variable target bag (bag_in bags variable) n)
+  | inl e ↦ ap (variable_bag (slice_set bags target bag)) e ∙ get_or-set_same bags target bag [] below
+      ∙ sym (same_chosen variable target bag (variable_bag bags variable) e)
+  | inr n ↦ get_or-set_other bags target variable bag [] n ∙ sym (other_chosen variable target bag (variable_bag bags variable) n)
 ]
 
 add_bag : (bags : List BagOf) (target variable : ℕ) (bag : BagOf) → target ≡ length bags
-    → bag_in (bags ++ bag ∷ []) variable ≡ (if variable == target then bag else bag_in bags variable)
+    → variable_bag (bags ++ bag ∷ []) variable ≡ (if variable == target then bag else variable_bag bags variable)
 add_bag bags target variable bag new = elim (cases_order variable target) [
-  | inl e ↦ get_or_push bags bag [] variable (omega arith) ∙ sym (same_chosen variable target bag (bag_in bags variable) e)
+  | inl e ↦ get_or_push bags bag [] variable (omega arith) ∙ sym (same_chosen variable target bag (variable_bag bags variable) e)
   | inr (inl below) ↦ get_or_append_left bags (bag ∷ []) [] variable (omega arith)
-      ∙ sym (other_chosen variable target bag (bag_in bags variable) (omega arith))
+      ∙ sym (other_chosen variable target bag (variable_bag bags variable) (omega arith))
   | inr (inr above) ↦ get_or_past (bags ++ bag ∷ []) variable [] (omega (arith, length-append bags (bag ∷ [])))
-      ∙ sym (get_or_past bags variable [] (omega arith)) ∙ sym (other_chosen variable target bag (bag_in bags variable) (omega arith))
+      ∙ sym (get_or_past bags variable [] (omega arith)) ∙ sym (other_chosen variable target bag (variable_bag bags variable) (omega arith))
 ]
 
 -- what an assignment leaves
 assigned_bag : (bags : List BagOf) (target variable : ℕ) (bag : BagOf) → target ≤ length bags
-    → bag_in (assign bags target bag) variable ≡ (if variable == target then bag else bag_in bags variable)
+    → variable_bag (item_put bags target bag) variable ≡ (if variable == target then bag else variable_bag bags variable)
 assigned_bag bags target variable bag most = elim (cases_lt target (length bags)) [
-  | inl below ↦ ap (λ (all : List BagOf). bag_in all variable) (assign_old bags target bag below) ∙ set_bag bags target variable bag below
+  | inl below ↦ ap (λ (all : List BagOf). variable_bag all variable) (assign_old bags target bag below) ∙ set_bag bags target variable bag below
   | inr above ↦
       let new : target ≡ length bags = omega arith in
-      ap (λ (all : List BagOf). bag_in all variable) (assign_new bags target bag new) ∙ add_bag bags target variable bag new
+      ap (λ (all : List BagOf). variable_bag all variable) (assign_new bags target bag new) ∙ add_bag bags target variable bag new
 ]
 
 -- as many bags as variables with columns
 assigned_long : (bags : List BagOf) (columns : List ℕ) (target count : ℕ) (bag : BagOf) → length bags ≡ length columns → target ≤ length columns
-    → length (assign bags target bag) ≡ length (columns_after columns target count)
+    → length (item_put bags target bag) ≡ length (columns_after columns target count)
 assigned_long bags columns target count bag long most = elim (cases_lt target (length bags)) [
   | inl below ↦ omega (
     arith,
@@ -215,11 +215,11 @@ may_within columns target count (inr old) = omega (arith, slice_get_within colum
 
 -- the store of the interpreter of all scripts has the bags of the thin one, and they are bags
 record Holds (store : Store) (bags : List BagOf) : Type 0 where
-  same : (variable : ℕ) → store variable ≡ bag_in bags variable
+  same : (variable : ℕ) → store variable ≡ variable_bag bags variable
   sorted : (variable : ℕ) → IsBag (store variable)
 
 holds_put : (store : Store) (bags : List BagOf) (target : ℕ) (bag : BagOf) → Holds store bags → target ≤ length bags → IsBag bag
-    → Holds (put store target bag) (assign bags target bag)
+    → Holds (put store target bag) (item_put bags target bag)
 holds_put store bags target bag holds most is = record {
   same = λ variable. ap (λ (other : BagOf). if variable == target then bag else other) (holds.same variable)
       ∙ sym (assigned_bag bags target variable bag most);
@@ -232,7 +232,7 @@ holds_put store bags target bag holds most is = record {
 -- ---- statements
 
 -- a state without decisions
-abbrev at : Store → List Write → ℕ → State
+abbrev at : Store → List Write → ℕ → ScriptState
 at store writes left = record { store = store; writes = writes; used = 0; left = left }
 
 -- from this statement on both interpreters end alike, wherever the steps are formed and the stores are the same
@@ -243,28 +243,28 @@ Alike files left body steps number =
     → all.ending_of (in_turn (map (exec_of files) body) number (at store writes left)) ≡ all_of_thin (exec_from files number bags writes steps)
 
 -- what a first statement does
-assign_does : (files : FileMap) (target : ℕ) (op : OpSpec) (args : List ℕ) (body : List Stmt) (number : ℕ) (state : State)
+assign_does : (files : FileMap) (target : ℕ) (op : OpSpec) (args : List ℕ) (body : List Stmt) (number : ℕ) (state : ScriptState)
     → in_turn (map (exec_of files) (roll-Stmt (stmt.Assign target op args) ∷ body)) number state
-    ≡ and_then (evaluated files number op args state (assigned target state)) (in_turn (map (exec_of files) body) (number + 1))
+    ≡ if_goes_on (evaluated files number op args state (assigned target state)) (in_turn (map (exec_of files) body) (number + 1))
 unfolding in_turn
 assign_does files target op args body number state =
     ap (λ (doing : Doing). in_turn (doing ∷ map (exec_of files) body) number state)
     (fold-roll-Stmt Doing (exec_step files) (stmt.Assign target op args))
 
-write_does : (files : FileMap) (op : OpSpec) (args : List ℕ) (body : List Stmt) (number : ℕ) (state : State)
+write_does : (files : FileMap) (op : OpSpec) (args : List ℕ) (body : List Stmt) (number : ℕ) (state : ScriptState)
     → in_turn (map (exec_of files) (roll-Stmt (stmt.Write op args) ∷ body)) number state
-    ≡ and_then (evaluated files number op args state (all.written state (name_written op (map state.store args))))
+    ≡ if_goes_on (evaluated files number op args state (all.after_write state (name_written op (map state.store args))))
     (in_turn (map (exec_of files) body) (number + 1))
 unfolding in_turn
 write_does files op args body number state =
     ap (λ (doing : Doing). in_turn (doing ∷ map (exec_of files) body) number state) (fold-roll-Stmt Doing (exec_step files) (stmt.Write op args))
 
 -- where a read gives the same bag or fault, both end alike
-read_ends : (number left target : ℕ) (store : Store) (writes : List Write) (rest : State → Ended) (later : BagOf → thin.Ending)
+read_ends : (number left target : ℕ) (store : Store) (writes : List Write) (rest : ScriptState → Ended) (later : BagOf → thin.ThinEnding)
     (answer : BagOrFault) (found : Result BagOf FaultKind)
     → by_kind answer ≡ found
     → ((bag : BagOf) → found ≡ Ok bag → all.ending_of (rest (at (put store target bag) writes left)) ≡ all_of_thin (later bag))
-    → all.ending_of (and_then (with_bag number (at store writes left) answer (assigned target (at store writes left))) rest)
+    → all.ending_of (if_goes_on (with_bag number (at store writes left) answer (assigned target (at store writes left))) rest)
     ≡ all_of_thin (after_read later number found)
 read_ends number left target store writes rest later (Ok bag) found is ends =
     ends bag (sym is) ∙ ap (λ (f : Result BagOf FaultKind). all_of_thin (after_read later number f)) is
@@ -311,9 +311,9 @@ module _ (sorted : (rows : List RowOf) → IsBag (bag_of rows))
         let same = assign_does files target (kind.Read name types) [] body number (at store writes left) in
         ap all.ending_of same
         ∙ read_ends number left target store writes (in_turn (map (exec_of files) body) (number + 1))
-        (λ bag. exec_from files (number + 1) (assign bags target bag) writes steps)
+        (λ bag. exec_from files (number + 1) (item_put bags target bag) writes steps)
         (whole (kind.Read name types) [] files) (read_bag files file (integers (length types))) (whole_read name types files file is are)
-        (λ bag found. next (columns_after columns target (length types)) formed.4 (put store target bag) (assign bags target bag) writes
+        (λ bag found. next (columns_after columns target (length types)) formed.4 (put store target bag) (item_put bags target bag) writes
         (assigned_long bags columns target (length types) bag long most)
         (holds_put store bags target bag holds (omega arith) (file_sorted (integers (length types)) (fin.get files file) bag found)))
 
@@ -325,15 +325,15 @@ module _ (sorted : (rows : List RowOf) → IsBag (bag_of rows))
         let most = may_within columns target formed.0 formed.3 in
         let state = at store writes left in
         let rest = in_turn (map (exec_of files) body) (number + 1) in
-        let sum = bag_sum (bag_in bags one ∷ bag_in bags other ∷ []) in
+        let sum = bag_sum (variable_bag bags one ∷ variable_bag bags other ∷ []) in
         let gives : whole kind.Union (store one ∷ store other ∷ []) files ≡ Ok sum =
         whole_union files (store one) (store other) ∙ ap (λ (b : BagOf). Ok (bag_sum (b ∷ store other ∷ []))) (holds.same one)
-        ∙ ap (λ (b : BagOf). Ok (bag_sum (bag_in bags one ∷ b ∷ []))) (holds.same other) in
+        ∙ ap (λ (b : BagOf). Ok (bag_sum (variable_bag bags one ∷ b ∷ []))) (holds.same other) in
         ap all.ending_of (assign_does files target kind.Union (one ∷ other ∷ []) body number state)
-        ∙ ap (λ (answer : BagOrFault). all.ending_of (and_then (with_bag number state answer (assigned target state)) rest)) gives
-        ∙ next (columns_after columns target formed.0) formed.4 (put store target sum) (assign bags target sum) writes
+        ∙ ap (λ (answer : BagOrFault). all.ending_of (if_goes_on (with_bag number state answer (assigned target state)) rest)) gives
+        ∙ next (columns_after columns target formed.0) formed.4 (put store target sum) (item_put bags target sum) writes
         (assigned_long bags columns target formed.0 sum long most)
-        (holds_put store bags target sum holds (omega arith) (sorted (all_rows (bag_in bags one ∷ bag_in bags other ∷ []))))
+        (holds_put store bags target sum holds (omega arith) (sorted (all_rows (variable_bag bags one ∷ variable_bag bags other ∷ []))))
 
     -- a write
     write_alike : (name : Expr) (source : ℕ) (file : List ℕ) → name_of name ≡ Some file
@@ -344,12 +344,12 @@ module _ (sorted : (rows : List RowOf) → IsBag (bag_of rows))
         let answer = whole (kind.Write name) (store source ∷ []) files in
         let rest = in_turn (map (exec_of files) body) (number + 1) in
         ap all.ending_of (write_does files (kind.Write name) (source ∷ []) body number state)
-        ∙ ap (λ (found : Option (List ℕ)). all.ending_of (and_then (with_bag number state answer (all.written state found)) rest))
+        ∙ ap (λ (found : Option (List ℕ)). all.ending_of (if_goes_on (with_bag number state answer (all.after_write state found)) rest))
         (whole_name name file (store source) is)
-        ∙ ap (λ (other : BagOrFault). all.ending_of (and_then (with_bag number state other (all.written state (Some file))) rest))
+        ∙ ap (λ (other : BagOrFault). all.ending_of (if_goes_on (with_bag number state other (all.after_write state (Some file))) rest))
         (whole_write name files file (store source) is (holds.sorted source))
         ∙ ap (λ (b : BagOf). all.ending_of (rest (at store (writes ++ record { name = file; bag = b } ∷ []) left))) (holds.same source)
-        ∙ next columns formed.2 store bags (writes ++ record { name = file; bag = bag_in bags source } ∷ []) long holds
+        ∙ next columns formed.2 store bags (writes ++ record { name = file; bag = variable_bag bags source } ∷ []) long holds
 
     -- an assignment of a thin script
     assigned_alike : (target : ℕ) (op : OpSpec) (args : List ℕ) (one : ThinStep) → length args ≡ bag_inputs_of op + captures_of op
@@ -400,7 +400,7 @@ module _ (sorted : (rows : List RowOf) → IsBag (bag_of rows))
     layer_alike variables (stmt.While op args block) one formed gives = absurd cc
 
     statement_alike : (variables : ℕ) (statement : Stmt) (one : ThinStep) → All (IsFormedHead variables) (heads_in statement)
-        → step_of statement ≡ Some one → Alike files left (statement ∷ body) (one ∷ steps) number
+        → thin_step_of statement ≡ Some one → Alike files left (statement ∷ body) (one ∷ steps) number
     statement_alike variables statement one formed gives =
         let same = roll-out-Stmt statement in
         subst (λ (s : Stmt). Alike files left (s ∷ body) (one ∷ steps) number) same
@@ -415,7 +415,7 @@ module _ (sorted : (rows : List RowOf) → IsBag (bag_of rows))
   body_alike files left variables [] steps number formed gives =
       subst (λ (some : List ThinStep). Alike files left [] some number) (same_Some [] steps gives) (λ columns all store bags writes long holds. refl)
   body_alike files left variables (first ∷ more) steps number formed gives =
-      let split = before_from (step_of first) (steps_of more) steps gives in
+      let split = before_from (thin_step_of first) (steps_of more) steps gives in
       let front = all_front (IsFormedHead variables) (heads_in first) (flat_map heads_in more) formed in
       let back = all_back (IsFormedHead variables) (heads_in first) (flat_map heads_in more) formed in
       let later = body_alike files left variables more split.1 (number + 1) back split.3 in
@@ -425,7 +425,7 @@ module _ (sorted : (rows : List RowOf) → IsBag (bag_of rows))
   -- a thin script that was accepted ends as its steps do, with any number of decisions
   pub thin_means : (script : Script) (types : List VarType) (steps : List ThinStep) (files : FileMap) (decisions : ℕ)
       → IsFormed script → IsNumbered script → checked script ≡ Ok types → thin_steps script ≡ Some steps
-      → all.exec script files decisions ≡ all_of_thin (thin.exec files steps)
+      → all.exec script files decisions ≡ all_of_thin (thin.exec_thin files steps)
   unfolding bag_of
   thin_means script types steps files decisions formed numbered accepted gives =
       let short = given_by (nat_le (length script.body) MAX_STATEMENTS) (steps_of script.body) steps gives in

@@ -21,7 +21,7 @@ use Rattle.mit_plan.specs.Plans.{PlanOf}
 use Rattle.mit_plan.specs.Printed.{plan_text}
 use Rattle.mit_plan.specs.declared.plan.TheConstants.{MAX_OPS}
 use Rattle.mit_ssa.specs.PlanFor.{plan_for}
-use Rattle.mit_engine.specs.Thin.{actions_of}
+use Rattle.mit_engine.specs.Thin.{action_count}
 use Rattle.mit_engine.specs.declared.thin.ThinStep.{ThinStep}
 use Rattle.mit_app.specs.Lines.{accepted_line, refusal_line, report_line, step_line}
 use Rattle.mit_app.specs.Statuses.{refusal_status}
@@ -66,6 +66,10 @@ IsCheck words = (shown : Bool) × (script : List ℕ) × IsCommand words (Check 
 
 abbrev pub IsPlan : List (List ℕ) → Type 0
 IsPlan words = (script : List ℕ) × IsCommand words Plan script
+
+-- the words ask for a check or a plan of the script of this name
+abbrev pub IsCheckOrPlan : List (List ℕ) → List ℕ → Type 0
+IsCheckOrPlan words script = ((shown : Bool) × IsCommand words (Check shown) script) ⊎ IsCommand words Plan script
 
 -- ---- what is found under a script's name
 
@@ -117,12 +121,12 @@ run_verdict files script None = Refused refusal.NotThin
 run_verdict files script (Some steps) = ending_verdict (λ used. Blocks 1) (exec script files DECISIONS)
 
 -- a plan has more than 4,096 operators, or so many edges that 256 times as many pass 1,048,576
-abbrev pub is_large : PlanOf → Bool
-is_large plan = nat_lt MAX_OPS (length plan.ops) || nat_lt 1048576 (256 * length plan.edges)
+abbrev pub is_too_large : PlanOf → Bool
+is_too_large plan = nat_lt MAX_OPS (length plan.ops) || nat_lt 1048576 (256 * length plan.edges)
 
 -- the text of a plan is shown, if it is not too large
 abbrev pub plan_verdict : PlanOf → Verdict
-plan_verdict plan = if is_large plan then Refused refusal.TooLarge else Shows (plan_text plan)
+plan_verdict plan = if is_too_large plan then Refused refusal.TooLarge else Shows (plan_text plan)
 
 -- what a task makes of an accepted script whose variables have these types
 abbrev pub task_verdict : Task → FileMap → Script → List VarType → Verdict
@@ -152,7 +156,7 @@ Due words files verdict =
 abbrev pub AreActions : List ℕ → FileMap → ℕ → Type 0
 AreActions name files actions =
     (script : Script) (types : List VarType) (steps : List ThinStep) → IsFound files name (Accepted script types) → thin_steps script ≡ Some steps
-    → actions ≡ actions_of steps
+    → actions ≡ action_count steps
 
 -- the same of the run for which the words ask
 abbrev pub RunsIn : List (List ℕ) → FileMap → ℕ → Type 0

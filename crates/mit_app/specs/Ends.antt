@@ -3,7 +3,7 @@ use Rattle.std.specs.Prelude.{◌≡◌, ⊤, ◌⊎◌, ◌<◌, ◌≤◌, ℕ
 use Rattle.std.specs.FinMap as fin
 use Rattle.mit_world.specs.Files.{FileMap}
 use Rattle.mit_world.specs.Outside.{Held}
-use Rattle.mit_engine.specs.Thin.{actions_of}
+use Rattle.mit_engine.specs.Thin.{action_count}
 use Rattle.mit_engine.specs.declared.thin.ThinStep.{ThinStep}
 use Rattle.mit_shelf.specs.Names.{IsLegal}
 use Rattle.mit_ops.specs.declared.types.VarType.{VarType}
@@ -83,19 +83,19 @@ FindsAs name files (Err (halt.Failed why)) = ⊤
 -- an accepted script is found under the name, and its run, where it can be run, takes so many actions
 abbrev pub Counted : List ℕ → FileMap → ℕ → Type 0
 Counted name files actions = (script : Script) × (types : List VarType) × IsFound files name (Accepted script types)
-    × ((steps : List ThinStep) → thin_steps script ≡ Some steps → actions ≡ actions_of steps)
+    × ((steps : List ThinStep) → thin_steps script ≡ Some steps → actions ≡ action_count steps)
 
 -- these files and this report are those of a task with an accepted script
-pub record Reports (task : Task) (script : Script) (types : List VarType) (files published : FileMap) (report : List ℕ) : Type 0 where
+pub record ReportsTask (task : Task) (script : Script) (types : List VarType) (files published : FileMap) (report : List ℕ) : Type 0 where
   pub tally : Tally
   pub due : task_verdict task files script types ≡ Publishes published tally
   pub actions : ℕ
-  pub counted : (steps : List ThinStep) → thin_steps script ≡ Some steps → actions ≡ actions_of steps
+  pub counted : (steps : List ThinStep) → thin_steps script ≡ Some steps → actions ≡ action_count steps
   pub text : report ≡ console_text (Publishes published tally) actions
 
 -- a run of an accepted script came to its end, or not
 abbrev pub RunsAs : Task → Script → List VarType → FileMap → Result Ran Halt → Type 0
-RunsAs task script types files (Ok ran) = Reports task script types files ran.files (string_bytes ran.report)
+RunsAs task script types files (Ok ran) = ReportsTask task script types files ran.files (string_bytes ran.report)
 RunsAs task script types files (Err (halt.Refused why)) = task_verdict task files script types ≡ Refused why
 RunsAs task script types files (Err (halt.Failed why)) = ⊤
 

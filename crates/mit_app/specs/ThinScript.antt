@@ -58,8 +58,8 @@ step_of_layer (stmt.Assign target op args) = assigned_step target op args
 step_of_layer (stmt.Write op args) = written_step op args
 step_of_layer _ = None
 
-abbrev pub step_of : Stmt → Option ThinStep
-step_of statement = step_of_layer (out-Stmt statement)
+abbrev pub thin_step_of : Stmt → Option ThinStep
+thin_step_of statement = step_of_layer (out-Stmt statement)
 
 -- one step before others, where each is there
 abbrev pub before_steps : Option ThinStep → Option (List ThinStep) → Option (List ThinStep)
@@ -68,7 +68,7 @@ before_steps (Some one) more = option_map (λ steps. one ∷ steps) more
 
 abbrev pub steps_of : List Stmt → Option (List ThinStep)
 steps_of [] = Some []
-steps_of (first ∷ more) = before_steps (step_of first) (steps_of more)
+steps_of (first ∷ more) = before_steps (thin_step_of first) (steps_of more)
 
 -- the steps of a script that runs today
 abbrev pub thin_steps : Script → Option (List ThinStep)

@@ -1,11 +1,11 @@
-ghost use Rattle.std.specs.Prelude.{◌≡◌, ◌≢◌, ◌≤◌, ◌⊎◌, IfErr, IfSome, OnErr};
+ghost use Rattle.std.specs.Prelude.{◌≡◌, ◌≢◌, ◌≤◌, ◌⊎◌, ℕ, List, IfErr, IfSome, OnErr};
 ghost use Rattle.mit_world.specs.Files.{FileMap};
-ghost use Rattle.mit_world.specs.Outside.{Continues, Rose};
+ghost use Rattle.mit_world.specs.Outside.{AsksAtMost, Continues, Rose};
 ghost use Rattle.mit_shelf.specs.Names.{IsLegal};
 ghost use Rattle.mit_shelf.specs.Shelf.{Agrees};
 ghost use Rattle.mit_shelf.specs.Staging.{published_in};
 ghost use Rattle.mit_app.specs.Answers.{Answers, Gains, TellsFiles};
-ghost use Rattle.mit_app.specs.Due.{IsCheck, IsPlan, IsUsage, texts};
+ghost use Rattle.mit_app.specs.Due.{IsCheck, IsCheckOrPlan, IsPlan, IsUsage, texts};
 ghost use Rattle.mit_app.specs.Ends.{Ends, IfOutsideFailed, IfLine, IsShowing, halt_line, halt_status};
 ghost use Rattle.mit_app.specs.Lines.{outside_line, refusal_line};
 ghost use Rattle.mit_app.specs.Statuses.{IsUnstaged};
@@ -40,7 +40,8 @@ use std::alloc::Global;
 /// - 7: memory ran out;
 /// - 9: the folder has no such script.
 ///
-/// At every status but 0 nothing is published, and one line tells why; at 6 and 7 it may be missing. A check and a plan publish nothing.
+/// At every status but 0 nothing is published, and one line tells why; at 6 and 7 it may be missing. A check and a plan publish nothing,
+/// and read no file but the script.
 /// Until it can be given, the seed of the schedule is 0.
 pub fn mitos<F: Folder, O: Outbox, C: Console>(
     alloc: Global,
@@ -60,6 +61,10 @@ pub fn mitos<F: Folder, O: Outbox, C: Console>(
     // A check and a plan leave the outbox as it was.
     ensures checked { IsCheck (texts words.now) → outbox.new ≡ outbox.old }
     ensures planned { IsPlan (texts words.now) → outbox.new ≡ outbox.old }
+
+    // They ask the folder for the script once at most, and for nothing else.
+    ensures asks_script { (script : List ℕ) → IsCheckOrPlan (texts words.now) script
+        → AsksAtMost script (F.asked folder.old) (F.asked folder.new) }
 
     // Each fault of the outside has its cause in this call; that of the folder has its line.
     ensures folder_failed { result ≡ 4 → Rose (F.faults folder.old) (F.faults folder.new) }
@@ -106,6 +111,7 @@ fn perform<F: Folder, O: Outbox, C: Console>(
         → Ends O.held task name.now files outbox.old outbox.new (C.written console.old) (C.written console.new) result }
     ensures unpublished { OnErr result (published_in (O.held outbox.new) ≡ published_in (O.held outbox.old)) }
     ensures shown { IsShowing task → outbox.new ≡ outbox.old }
+    ensures asks { IsShowing task → AsksAtMost name.now (F.asked folder.old) (F.asked folder.new) }
     ensures agrees { IfSome (F.files folder.old) (λ files. Agrees shelf.old files → Agrees shelf.new files) }
     ensures failed { IfErr result (λ halt. IfOutsideFailed halt (Rose (F.faults folder.old) (F.faults folder.new))
         (Rose (O.faults outbox.old) (O.faults outbox.new)) (Rose (C.faults console.old) (C.faults console.new))) }

@@ -1,7 +1,7 @@
 //! The command `check`.
 ghost use Rattle.std.specs.Prelude.{◌≡◌, ◌≤◌, ◌++◌, [], if◌then◌else◌, IfErr, IfOk, IfSome};
 ghost use Rattle.mit_world.specs.Files.{FileMap};
-ghost use Rattle.mit_world.specs.Outside.{Continues, Rose};
+ghost use Rattle.mit_world.specs.Outside.{AsksAtMost, Continues, Rose};
 ghost use Rattle.mit_shelf.specs.Names.{IsLegal};
 ghost use Rattle.mit_shelf.specs.Shelf.{Agrees};
 ghost use Rattle.mit_script.specs.Printed.{printed};
@@ -52,6 +52,7 @@ pub(crate) fn check_and_show<F: Folder, C: Console>(
         ⊥ (Rose (C.faults console.old) (C.faults console.new))) }
     ensures continues { Continues (C.written console.old) (C.written console.new) }
     ensures told { F.files folder.new ≡ F.files folder.old }
+    ensures asks { AsksAtMost name.now (F.asked folder.old) (F.asked folder.new) }
     ensures folder_count { F.faults folder.old ≤ F.faults folder.new }
     ensures console_count { C.faults console.old ≤ C.faults console.new }
 {

@@ -3,7 +3,7 @@ ghost use Rattle.std.specs.Prelude.{◌≡◌, ◌↔◌, ℕ, List, true};
 ghost use Rattle.mit_world.specs.Files.{FileMap};
 ghost use Rattle.mit_plan.specs.Plans.{PlanOf};
 ghost use Rattle.mit_ssa.specs.PlanFor.{IsLarge};
-ghost use Rattle.mit_app.specs.Due.{Due, IsCommand, Verdict, is_large};
+ghost use Rattle.mit_app.specs.Due.{Due, IsCommand, Verdict, is_too_large};
 ghost use Rattle.mit_app.specs.declared.words.Task.{Task};
 
 use mit_parse::laws::one_reading;
@@ -19,5 +19,5 @@ pub fn one_verdict()
 
 /// The test of a plan's size, by which a script is refused, answers exactly what the rules of plans say.
 pub fn plan_sizes()
-    ensures { (plan : PlanOf) → (is_large plan ≡ true) ↔ IsLarge plan }
+    ensures { (plan : PlanOf) → (is_too_large plan ≡ true) ↔ IsLarge plan }
 {}

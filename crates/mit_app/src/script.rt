@@ -1,7 +1,7 @@
 //! The accepted script of a file.
 ghost use Rattle.std.specs.Prelude.{◌≡◌, ◌≤◌, ◌⊎◌, IfErr, IfOk, IfSome};
 ghost use Rattle.mit_world.specs.Files.{FileMap};
-ghost use Rattle.mit_world.specs.Outside.{Rose};
+ghost use Rattle.mit_world.specs.Outside.{AsksAtMost, Rose};
 ghost use Rattle.mit_shelf.specs.Shelf.{Agrees};
 ghost use Rattle.mit_script.specs.Trees.{IsNumbered};
 ghost use Rattle.mit_shelf.specs.Names.{IsLegal};
@@ -33,6 +33,7 @@ pub(crate) fn read_script<F: Folder>(
     ensures agrees { IfSome (F.files folder.old) (λ files. Agrees shelf.old files → Agrees shelf.new files) }
     ensures failed { IfErr result (λ halt. IfOutsideFailed halt (Rose (F.faults folder.old) (F.faults folder.new)) ⊥ ⊥) }
     ensures told { F.files folder.new ≡ F.files folder.old }
+    ensures asks { AsksAtMost name.now (F.asked folder.old) (F.asked folder.new) }
     ensures count { F.faults folder.old ≤ F.faults folder.new }
 {
     match shelf.fetch(name.as_bytes(), folder) {

@@ -14,12 +14,12 @@ use mit_shelf::{Name, legal_name};
 use std::alloc::{AllocError, Global};
 
 // The name of a file, where the expression is a literal that is a legal one.
-fn literal_name(alloc: Global, name: &Expr) -> Result<Option<Name>, AllocError>
+fn literal_name(name: &Expr) -> Result<Option<Name>, AllocError>
     ensures { IfOk result (λ found. found ≡ spec.name_of name.now) }
 {
     match name {
         Expr::Lit(Value::Text(text)) if legal_name(text.bytes()) => {
-            Ok(Some(Name::from_text(text.copy(alloc)?)))
+            Ok(Some(Name::from_text(text.copy()?)))
         }
         _ => Ok(None),
     }
@@ -47,18 +47,13 @@ fn is_read(types: &[ColType]) -> bool
 }
 
 // An assignment as a step.
-fn assigned_step(
-    alloc: Global,
-    target: u32,
-    op: &OpSpec,
-    args: &[u32],
-) -> Result<Option<ThinStep>, AllocError>
+fn assigned_step(target: u32, op: &OpSpec, args: &[u32]) -> Result<Option<ThinStep>, AllocError>
     ensures { IfOk result (λ found. found ≡ spec.assigned_step target op.now args.now) }
 {
     match op {
         OpSpec::Read { name, types } if is_read(types.as_slice()) => {
             let columns = types.as_slice().len() as u8;
-            Ok(literal_name(alloc, name)?.map(|name| ThinStep::Read {
+            Ok(literal_name(name)?.map(|name| ThinStep::Read {
                 target,
                 name,
                 columns,
@@ -74,23 +69,23 @@ fn assigned_step(
 }
 
 // A write as a step.
-fn written_step(alloc: Global, op: &OpSpec, args: &[u32]) -> Result<Option<ThinStep>, AllocError>
+fn written_step(op: &OpSpec, args: &[u32]) -> Result<Option<ThinStep>, AllocError>
     ensures { IfOk result (λ found. found ≡ spec.written_step op.now args.now) }
 {
     let OpSpec::Write { name } = op else {
         return Ok(None);
     };
     let source = argument(args, 0);
-    Ok(literal_name(alloc, name)?.map(|name| ThinStep::Write { source, name }))
+    Ok(literal_name(name)?.map(|name| ThinStep::Write { source, name }))
 }
 
 // A statement as a step.
-fn step_of(alloc: Global, statement: &Stmt) -> Result<Option<ThinStep>, AllocError>
-    ensures { IfOk result (λ found. found ≡ spec.step_of statement.now) }
+fn step_of(statement: &Stmt) -> Result<Option<ThinStep>, AllocError>
+    ensures { IfOk result (λ found. found ≡ spec.thin_step_of statement.now) }
 {
     match statement {
-        Stmt::Assign { target, op, args } => assigned_step(alloc, *target, op, args.as_slice()),
-        Stmt::Write { op, args } => written_step(alloc, op, args.as_slice()),
+        Stmt::Assign { target, op, args } => assigned_step(*target, op, args.as_slice()),
+        Stmt::Write { op, args } => written_step(op, args.as_slice()),
         _ => Ok(None),
     }
 }
@@ -106,7 +101,7 @@ pub(crate) fn thin_of(alloc: Global, script: &Script) -> Result<Option<Thin>, Al
     }
     let mut steps = Vec::with_capacity(alloc, body.len())?;
     for statement in body {
-        let Some(step) = step_of(alloc, statement)? else {
+        let Some(step) = step_of(statement)? else {
             return Ok(None);
         };
         steps.push(step)?;

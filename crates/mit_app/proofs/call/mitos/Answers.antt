@@ -1,5 +1,6 @@
 use Rattle.std.proofs.Common.{refl}
 use Rattle.mit_app.specs.Due.{texts}
+use Rattle.mit_app.proofs.DueLemmas.{asks_for_script}
 use Rattle.mit_app.proofs.EndLemmas.{answers_halted, answers_usage, answers_well, continues_both, files_after, halted_folder, halted_uncalled, some_files}
 use Rattle.mit_app.proofs.TaskLemmas.{halted_apart}
 use Rattle.mit_app.proofs.call.mitos.Goals as goal
@@ -62,3 +63,13 @@ pub returns-clause-continues : goal.returns-clause-continues
 returns-clause-continues g c =
     continues_both (g.C.Console.written c.args.console.now) (g.C.Console.written c.perform.new.console) (g.C.Console.written c.tell-in-Err.new.console)
     c.in-Err.ensures.continues c.tell-in-Err.ensures.continues
+
+pub returns-in-Ok-clause-asks_script : goal.returns-in-Ok-clause-asks_script
+returns-in-Ok-clause-asks_script g c = λ script looks.
+    asks_for_script (texts c.args.words.now) c.in-Some.task c.in-Some.name.now script (g.F.Folder.asked c.args.folder.now)
+    (g.F.Folder.asked c.perform.new.folder) c.in-Some.ensures.command c.perform.ensures.asks looks
+
+pub returns-clause-asks_script : goal.returns-clause-asks_script
+returns-clause-asks_script g c = λ script looks.
+    asks_for_script (texts c.args.words.now) c.in-Some.task c.in-Some.name.now script (g.F.Folder.asked c.args.folder.now)
+    (g.F.Folder.asked c.perform.new.folder) c.in-Some.ensures.command c.perform.ensures.asks looks
