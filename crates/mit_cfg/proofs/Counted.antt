@@ -10,7 +10,7 @@ use Rattle.mit_script.specs.declared.tree.Stmt.TheFolds.{fold-roll-Stmt, ind-Stm
 use Rattle.mit_script.specs.declared.tree.Stmt.TheOpen.{Stmt-F}
 use Rattle.mit_script.specs.declared.tree.Stmt.TheOpen as layer
 use Rattle.mit_script.specs.declared.tree.Stmt.TheVariants as stmt
-use Rattle.mit_cfg.specs.Blocks.{Cut, Stretch, adds, counts, cut_of, cut_step, in_turn}
+use Rattle.mit_cfg.specs.Blocks.{Cut, Stretch, cut_adds, cut_counts, cut_in_turn, cut_of, cut_step}
 use Rattle.mit_cfg.specs.Laying.{Lays, built}
 use Rattle.mit_cfg.specs.declared.build.Builder.{Builder}
 
@@ -23,8 +23,8 @@ pub record Few (cut : Cut) (count : ℕ) : Type 0 where
   pub same : cut.count ≡ count
 
 pub record AreFew (cuts : List Cut) (count : ℕ) : Type 0 where
-  pub few : adds cuts ≤ 3 * counts cuts
-  pub same : counts cuts ≡ count
+  pub few : cut_adds cuts ≤ 3 * cut_counts cuts
+  pub same : cut_counts cuts ≡ count
 
 more_few : (cut : Cut) (cuts : List Cut) (count : ℕ) (others : List ℕ) → Few cut count → AreFew cuts (sum others) → AreFew (cut ∷ cuts) (sum (count ∷ others))
 more_few cut cuts count others first later =
@@ -77,30 +77,30 @@ one_few stmt = (is_few stmt).few
 
 -- what is built so far and what is left give the whole
 pub record Half (block : List Stmt) (index : ℕ) (old now : Builder) : Type 0 where
-  pub number : now.number + counts (map cut_of (drop index block)) ≡ old.number + counts (map cut_of block)
-  pub size : length now.blocks.items + adds (map cut_of (drop index block)) ≡ length old.blocks.items + adds (map cut_of block)
+  pub number : now.number + cut_counts (map cut_of (drop index block)) ≡ old.number + cut_counts (map cut_of block)
+  pub size : length now.blocks.items + cut_adds (map cut_of (drop index block)) ≡ length old.blocks.items + cut_adds (map cut_of block)
   pub blocks : length now.blocks.items ≤ 3 * now.number
-  pub laid : (after : Stretch) → built now (in_turn (map cut_of (drop index block)) (length now.blocks.items) now.number after)
-      ≡ built old (in_turn (map cut_of block) (length old.blocks.items) old.number after)
+  pub laid : (after : Stretch) → built now (cut_in_turn (map cut_of (drop index block)) (length now.blocks.items) now.number after)
+      ≡ built old (cut_in_turn (map cut_of block) (length old.blocks.items) old.number after)
 
 -- the next statement, and those after it
 pub next_counts : (block : List Stmt) (index : ℕ) (stmt : Stmt) → index < length block → stmt ≡ get_or block index stmt
-    → counts (map cut_of (drop index block)) ≡ (cut_of stmt).count + counts (map cut_of (drop (index + 1) block))
+    → cut_counts (map cut_of (drop index block)) ≡ (cut_of stmt).count + cut_counts (map cut_of (drop (index + 1) block))
 next_counts block index stmt within is =
-    ap (λ list. counts (map cut_of list)) (drop_more block index stmt within)
-    ∙ ap (λ some. counts (map cut_of (some ∷ drop (index + 1) block))) (sym is)
+    ap (λ list. cut_counts (map cut_of list)) (drop_more block index stmt within)
+    ∙ ap (λ some. cut_counts (map cut_of (some ∷ drop (index + 1) block))) (sym is)
     ∙ sum-map-cons (λ (one : Cut). one.count) (cut_of stmt) (map cut_of (drop (index + 1) block))
 
 next_adds : (block : List Stmt) (index : ℕ) (stmt : Stmt) → index < length block → stmt ≡ get_or block index stmt
-    → adds (map cut_of (drop index block)) ≡ (cut_of stmt).added + adds (map cut_of (drop (index + 1) block))
+    → cut_adds (map cut_of (drop index block)) ≡ (cut_of stmt).added + cut_adds (map cut_of (drop (index + 1) block))
 next_adds block index stmt within is =
-    ap (λ list. adds (map cut_of list)) (drop_more block index stmt within)
-    ∙ ap (λ some. adds (map cut_of (some ∷ drop (index + 1) block))) (sym is)
+    ap (λ list. cut_adds (map cut_of list)) (drop_more block index stmt within)
+    ∙ ap (λ some. cut_adds (map cut_of (some ∷ drop (index + 1) block))) (sym is)
     ∙ sum-map-cons (λ (one : Cut). one.added) (cut_of stmt) (map cut_of (drop (index + 1) block))
 
 pub half_more : (block : List Stmt) (index : ℕ) (stmt : Stmt) (old now new : Builder) → index < length block → stmt ≡ get_or block index stmt
     → Half block index old now → Lays (cut_of stmt).count (cut_of stmt).added (cut_of stmt).onto now new → Half block (index + 1) old new
-unfolding in_turn
+unfolding cut_in_turn
 half_more block index stmt old now new within is half lays =
     let a = lays.number in let b = lays.size in let c = half.number in let d = half.size in
     let e = next_counts block index stmt within is in let f = next_adds block index stmt within is in
@@ -110,26 +110,26 @@ half_more block index stmt old now new within is half lays =
       size = omega (arith, b, d, f);
       blocks = omega (arith, a, b, g, h);
       laid = λ after.
-          let rest = in_turn (map cut_of (drop (index + 1) block)) (length now.blocks.items + (cut_of stmt).added) (now.number + (cut_of stmt).count) after in
-          ap (λ (at : ℕ). built new (in_turn (map cut_of (drop (index + 1) block)) at new.number after)) b
-          ∙ ap (λ (number : ℕ). built new (in_turn (map cut_of (drop (index + 1) block)) (length now.blocks.items + (cut_of stmt).added) number after)) a
+          let rest = cut_in_turn (map cut_of (drop (index + 1) block)) (length now.blocks.items + (cut_of stmt).added) (now.number + (cut_of stmt).count) after in
+          ap (λ (at : ℕ). built new (cut_in_turn (map cut_of (drop (index + 1) block)) at new.number after)) b
+          ∙ ap (λ (number : ℕ). built new (cut_in_turn (map cut_of (drop (index + 1) block)) (length now.blocks.items + (cut_of stmt).added) number after)) a
           ∙ lays.laid rest
-          ∙ ap (λ some. built now (in_turn (map cut_of (some ∷ drop (index + 1) block)) (length now.blocks.items) now.number after)) is
-          ∙ ap (λ list. built now (in_turn (map cut_of list) (length now.blocks.items) now.number after)) (sym (drop_more block index stmt within))
+          ∙ ap (λ some. built now (cut_in_turn (map cut_of (some ∷ drop (index + 1) block)) (length now.blocks.items) now.number after)) is
+          ∙ ap (λ list. built now (cut_in_turn (map cut_of list) (length now.blocks.items) now.number after)) (sym (drop_more block index stmt within))
           ∙ half.laid after;
     }
 
 pub half_whole : (block : List Stmt) (index : ℕ) (old now : Builder) → length block ≤ index → Half block index old now
-    → Lays (counts (map cut_of block)) (adds (map cut_of block)) (in_turn (map cut_of block)) old now
-unfolding in_turn
+    → Lays (cut_counts (map cut_of block)) (cut_adds (map cut_of block)) (cut_in_turn (map cut_of block)) old now
+unfolding cut_in_turn
 half_whole block index old now past half =
     let none = drop_all index block past in
-    let a = ap (λ list. counts (map cut_of list)) none in let b = ap (λ list. adds (map cut_of list)) none in
+    let a = ap (λ list. cut_counts (map cut_of list)) none in let b = ap (λ list. cut_adds (map cut_of list)) none in
     let c = half.number in let d = half.size in
     record {
       number = omega (arith, a, c);
       size = omega (arith, b, d);
-      laid = λ after. ap (λ list. built now (in_turn (map cut_of list) (length now.blocks.items) now.number after)) (sym none) ∙ half.laid after;
+      laid = λ after. ap (λ list. built now (cut_in_turn (map cut_of list) (length now.blocks.items) now.number after)) (sym none) ∙ half.laid after;
     }
 
 -- an `if` is cut so

@@ -4,7 +4,7 @@ use Rattle.std.proofs.Math.Nat.{mul-le-mul_right}
 use Rattle.std.proofs.Math.Seq.{get_or-append_seam}
 use Rattle.mit_world.specs.Files.{FileMap}
 use Rattle.mit_ops.specs.Endings.{Ending}
-use Rattle.mit_cfg.specs.Walk.{Place, block_at, next_place, over, walk_from}
+use Rattle.mit_cfg.specs.Walk.{Place, at_ending, next_place, numbered_block, walk_from}
 use Rattle.mit_cfg.specs.declared.block.Block.{Block}
 
 -- a step before so many places is a step after them
@@ -16,7 +16,7 @@ shifted blocks files place (suc count) = ap (λ p. next_place blocks files p) (s
 
 -- what is over stays over
 pub stays_over : (blocks : List Block) (files : FileMap) (place : Place) (ending : Ending) (count more : ℕ)
-    → walk_from blocks files place count ≡ over ending → walk_from blocks files place (more + count) ≡ over ending
+    → walk_from blocks files place count ≡ at_ending ending → walk_from blocks files place (more + count) ≡ at_ending ending
 unfolding walk_from
 stays_over blocks files place ending count zero is = let e : 0 + count ≡ count = omega arith in ap (λ n. walk_from blocks files place n) e ∙ is
 stays_over blocks files place ending count (suc more) is =
@@ -28,9 +28,9 @@ stays_over blocks files place ending count (suc more) is =
 pub record Ends (blocks : List Block) (files : FileMap) (gone left : ℕ) (place : Place) (ending : Ending) : Type 0 where
   pub count : ℕ
   pub within : count + gone ≤ (left + 1) * length blocks
-  pub comes : walk_from blocks files place count ≡ over ending
+  pub comes : walk_from blocks files place count ≡ at_ending ending
 
-pub ends_over : (blocks : List Block) (files : FileMap) (gone left : ℕ) (ending : Ending) → gone ≤ length blocks → Ends blocks files gone left (over ending) ending
+pub ends_over : (blocks : List Block) (files : FileMap) (gone left : ℕ) (ending : Ending) → gone ≤ length blocks → Ends blocks files gone left (at_ending ending) ending
 unfolding walk_from
 ends_over blocks files gone left ending room = record {
   count = 0;
@@ -95,10 +95,10 @@ holds_back blocks at later one other sum holds = record {
   is = holds.is ∙ ap (λ list. holds.front ++ list) (append_assoc one other holds.back) ∙ sym (append_assoc holds.front one (other ++ holds.back));
 }
 
-pub holds_first : (blocks : List Block) (at : ℕ) (first : Block) (later : List Block) → Holds blocks at (first ∷ later) → block_at blocks at ≡ first
+pub holds_first : (blocks : List Block) (at : ℕ) (first : Block) (later : List Block) → Holds blocks at (first ∷ later) → numbered_block blocks at ≡ first
 holds_first blocks at first later holds =
-    ap (λ list. block_at list at) holds.is
-    ∙ ap (λ n. block_at (holds.front ++ first ∷ (later ++ holds.back)) n) (sym holds.size)
+    ap (λ list. numbered_block list at) holds.is
+    ∙ ap (λ n. numbered_block (holds.front ++ first ∷ (later ++ holds.back)) n) (sym holds.size)
     ∙ get_or-append_seam holds.front first (later ++ holds.back) _
 
 pub holds_within : (blocks : List Block) (at : ℕ) (some : List Block) → Holds blocks at some → at + length some ≤ length blocks

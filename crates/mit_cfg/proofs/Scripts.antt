@@ -8,17 +8,17 @@ use Rattle.mit_world.specs.Files.{FileMap}
 use Rattle.mit_ops.specs.Endings.{finished}
 use Rattle.mit_ops.specs.declared.kinds.OpSpec.{OpSpec}
 use Rattle.mit_ops.specs.declared.leave.Leave.TheVariants.{End}
-use Rattle.mit_script.specs.Execution.{Doing, Ended, State, and_then, at_fault, decides, ending_of, exec, exec_of, exec_step, goes_on, start}
-use Rattle.mit_script.specs.Execution.{counts as counts_done, in_turn as done_in_turn}
+use Rattle.mit_script.specs.Execution.{Doing, Ended, ScriptState, at_fault, by_condition, ending_of, exec, exec_of, exec_step, goes_on, if_goes_on, start}
+use Rattle.mit_script.specs.Execution.{counts, in_turn}
 use Rattle.mit_script.specs.Trees.{Head, IsFormed, IsFormedHead, assigns, head_step, heads_in, is_scalar, writes}
-use Rattle.mit_script.specs.Trees.{decides as decides_head}
+use Rattle.mit_script.specs.Trees.{decides}
 use Rattle.mit_script.specs.declared.tree.Script.{Script}
 use Rattle.mit_script.specs.declared.tree.Stmt.{Stmt, roll-Stmt}
 use Rattle.mit_script.specs.declared.tree.Stmt.TheFolds.{fold-roll-Stmt, ind-Stmt, map-Stmt}
 use Rattle.mit_script.specs.declared.tree.Stmt.TheOpen.{Stmt-F}
 use Rattle.mit_script.specs.declared.tree.Stmt.TheOpen as layer
-use Rattle.mit_cfg.specs.Blocks.{Cut, Stretch, adds, blocks_of, counts, cut_of, cut_step, in_turn, left}
-use Rattle.mit_cfg.specs.Walk.{before, does, entered, over, through, walk}
+use Rattle.mit_cfg.specs.Blocks.{Cut, Stretch, blocks_of, cut_adds, cut_counts, cut_in_turn, cut_of, cut_step, left}
+use Rattle.mit_cfg.specs.Walk.{at_ending, before, does, entered, through, walk}
 use Rattle.mit_cfg.proofs.Branches.{if_stands, left_size, while_stands}
 use Rattle.mit_cfg.proofs.Ends.{Ends, Holds, ends_next, ends_over, stays_over}
 use Rattle.mit_cfg.proofs.Stands.{Stands, assign_stands, both_stand, ending_after, none_stand, write_stands}
@@ -27,7 +27,7 @@ use Rattle.mit_cfg.proofs.Stands.{Stands, assign_stands, both_stand, ending_afte
 abbrev IsPlain : Head → Type 0
 IsPlain (assigns target operator args) = Unit {0}
 IsPlain (writes operator args) = Unit {0}
-IsPlain (decides_head operator args) = is_scalar operator ≡ true
+IsPlain (decides operator args) = is_scalar operator ≡ true
 
 -- a statement that is cut so and does so
 record Walks (files : FileMap) (cut : Cut) (doing : Doing) : Type 0 where
@@ -35,13 +35,13 @@ record Walks (files : FileMap) (cut : Cut) (doing : Doing) : Type 0 where
   stands : Stands files cut.added cut.onto doing.does
 
 record AllWalk (files : FileMap) (cuts : List Cut) (doings : List Doing) : Type 0 where
-  count : counts cuts ≡ counts_done doings
-  stands : Stands files (adds cuts) (in_turn cuts) (done_in_turn doings)
+  count : cut_counts cuts ≡ counts doings
+  stands : Stands files (cut_adds cuts) (cut_in_turn cuts) (in_turn doings)
 
 -- ---- statements one after another
 
 nothing_walks : (files : FileMap) → AllWalk files [] []
-unfolding in_turn done_in_turn
+unfolding cut_in_turn in_turn
 nothing_walks files = record { count = refl; stands = none_stand files }
 
 sum-map-cons : {A : Type 0} (f : A → ℕ) (x : A) (xs : List A) → sum (map f (x ∷ xs)) ≡ f x + sum (map f xs)
@@ -49,7 +49,7 @@ sum-map-cons f x xs = sum_by-cons (λ (n : ℕ). n) (f x) (map f xs)
 
 one_more_walks : (files : FileMap) (cut : Cut) (doing : Doing) (cuts : List Cut) (doings : List Doing)
     → Walks files cut doing → AllWalk files cuts doings → AllWalk files (cut ∷ cuts) (doing ∷ doings)
-unfolding in_turn done_in_turn
+unfolding cut_in_turn in_turn
 one_more_walks files cut doing cuts doings first later = record {
   count =
       let a = sum-map-cons (λ (one : Cut). one.count) cut cuts in
@@ -58,13 +58,13 @@ one_more_walks files cut doing cuts doings first later = record {
       let d = later.count in
       omega (arith, a, b, c, d);
   stands =
-      subst (λ (n : ℕ). Stands files n (in_turn (cut ∷ cuts)) (done_in_turn (doing ∷ doings))) (sym (sum-map-cons (λ (one : Cut). one.added) cut cuts))
-      (subst (λ (n : ℕ). Stands files (cut.added + adds cuts) (in_turn (cut ∷ cuts)) (λ number state. followed doing doings number state n)) first.count
-      (both_stand files cut.count cut.added (adds cuts) cut.onto (in_turn cuts) doing.does (done_in_turn doings) first.stands later.stands));
+      subst (λ (n : ℕ). Stands files n (cut_in_turn (cut ∷ cuts)) (in_turn (doing ∷ doings))) (sym (sum-map-cons (λ (one : Cut). one.added) cut cuts))
+      (subst (λ (n : ℕ). Stands files (cut.added + cut_adds cuts) (cut_in_turn (cut ∷ cuts)) (λ number state. followed doing doings number state n)) first.count
+      (both_stand files cut.count cut.added (cut_adds cuts) cut.onto (cut_in_turn cuts) doing.does (in_turn doings) first.stands later.stands));
 }
   where
-    followed : Doing → List Doing → ℕ → State → ℕ → Ended
-    followed doing doings number state count = and_then (doing.does number state) (done_in_turn doings (number + count))
+    followed : Doing → List Doing → ℕ → ScriptState → ℕ → Ended
+    followed doing doings number state count = if_goes_on (doing.does number state) (in_turn doings (number + count))
 
 -- ---- by the kind of a statement
 
@@ -105,16 +105,16 @@ if_walks : (files : FileMap) (operator : OpSpec) (args : List ℕ) (on_true on_f
 if_walks files operator args on_true on_false doings doings' scalar one other = record {
   count = let a = one.count in let b = other.count in omega (arith, a, b);
   stands =
-      subst (λ (n : ℕ). Stands files (3 + adds on_true + adds on_false) (cut_step (layer.If operator args on_true on_false)).onto
-      (λ number state. decides files number operator args state (λ truth later. if truth then done_in_turn doings (number + 1) later else done_in_turn doings' (number + 1 + n) later)))
-      one.count (if_stands files operator args on_true on_false (done_in_turn doings) (done_in_turn doings') scalar one.stands other.stands);
+      subst (λ (n : ℕ). Stands files (3 + cut_adds on_true + cut_adds on_false) (cut_step (layer.If operator args on_true on_false)).onto
+      (λ number state. by_condition files number operator args state (λ truth later. if truth then in_turn doings (number + 1) later else in_turn doings' (number + 1 + n) later)))
+      one.count (if_stands files operator args on_true on_false (in_turn doings) (in_turn doings') scalar one.stands other.stands);
 }
 
 while_walks : (files : FileMap) (operator : OpSpec) (args : List ℕ) (body : List Cut) (doings : List Doing) → is_scalar operator ≡ true → AllWalk files body doings
     → Walks files (cut_step (layer.While operator args body)) (exec_step files (layer.While operator args doings))
 while_walks files operator args body doings scalar inside = record {
   count = let a = inside.count in omega (arith, a);
-  stands = while_stands files operator args body (done_in_turn doings) scalar inside.stands;
+  stands = while_stands files operator args body (in_turn doings) scalar inside.stands;
 }
 
 layer_sound : (files : FileMap) (one : Stmt-F (Proved files)) → Sound files (roll-Stmt (map-Stmt (Proved files) Stmt (only files) one))
@@ -127,17 +127,17 @@ layer_sound files (layer.If operator args on_true on_false) =
     (λ plain.
     let yes = flat_map (λ heads. heads) (map heads_in (map (only files) on_true)) in
     let no = flat_map (λ heads. heads) (map heads_in (map (only files) on_false)) in
-    let inside = All-tail IsPlain (decides_head operator args) (yes ++ no) plain in
+    let inside = All-tail IsPlain (decides operator args) (yes ++ no) plain in
     if_walks files operator args (map cut_of (map (only files) on_true)) (map cut_of (map (only files) on_false)) (map (exec_of files) (map (only files) on_true)) (map (exec_of files) (map (only files) on_false))
-    (All-head IsPlain (decides_head operator args) (yes ++ no) plain)
+    (All-head IsPlain (decides operator args) (yes ++ no) plain)
     (block_walks files on_true (all_front IsPlain yes no inside)) (block_walks files on_false (all_back IsPlain yes no inside)))
 layer_sound files (layer.While operator args body) =
     rolled files (layer.While operator args (map (only files) body))
     (λ plain.
     let inside = flat_map (λ heads. heads) (map heads_in (map (only files) body)) in
     while_walks files operator args (map cut_of (map (only files) body)) (map (exec_of files) (map (only files) body))
-    (All-head IsPlain (decides_head operator args) inside plain)
-    (block_walks files body (All-tail IsPlain (decides_head operator args) inside plain)))
+    (All-head IsPlain (decides operator args) inside plain)
+    (block_walks files body (All-tail IsPlain (decides operator args) inside plain)))
 
 sound : (files : FileMap) (stmt : Stmt) → Sound files stmt
 sound files = ind-Stmt (Sound files) (λ one inner same. subst (λ some. Sound files (roll-Stmt some)) same (layer_sound files inner))
@@ -153,7 +153,7 @@ body_walks files (first ∷ later) plain =
 formed_plain : (variables : ℕ) (head : Head) → IsFormedHead variables head → IsPlain head
 formed_plain variables (assigns target operator args) formed = tt
 formed_plain variables (writes operator args) formed = tt
-formed_plain variables (decides_head operator args) formed = formed.0
+formed_plain variables (decides operator args) formed = formed.0
 
 ends_script : (ended : Ended) → ending_after ended (λ state. finished state.writes state.used) ≡ ending_of ended
 ends_script (goes_on state) = refl
@@ -166,22 +166,22 @@ script_ends script files decisions formed =
     let cuts = map cut_of script.body in
     let doings = map (exec_of files) script.body in
     let all = body_walks files script.body (All-weaker (IsFormedHead (length script.names)) IsPlain (formed_plain (length script.names)) (flat_map heads_in script.body) formed.formed) in
-    let size = left_size files cuts (done_in_turn doings) all.stands 0 1 End in
+    let size = left_size files cuts (in_turn doings) all.stands 0 1 End in
     let after : Stretch = record { first = record { steps = []; leave = End }; later = [] } in
     let whole = left cuts 0 1 End in
     let holds : Holds (blocks_of script) 1 whole.later = record { front = whole.first ∷ []; back = []; size = refl; is = ap (λ list. whole.first ∷ list) (sym (append-nil whole.later)) } in
     ends_next (blocks_of script) files 0 decisions (before 0 (start decisions)) (exec script files decisions)
     (subst (λ ending. Ends (blocks_of script) files 1 decisions (through files whole.first (entered (start decisions))) ending)
-    (ends_script (done_in_turn doings 1 (start decisions)))
+    (ends_script (in_turn doings 1 (start decisions)))
     (all.stands.passes (blocks_of script) 0 1 after (start decisions) (λ state. finished state.writes state.used) holds
-    (λ later statement bag less. ends_over (blocks_of script) files (0 + adds cuts + 1) later.left _ (omega (arith, size))) 0 []))
+    (λ later statement bag less. ends_over (blocks_of script) files (0 + cut_adds cuts + 1) later.left _ (omega (arith, size))) 0 []))
 
 pub walk_is_exec : (script : Script) (files : FileMap) (decisions : ℕ) → IsFormed script
-    → walk (blocks_of script) files decisions ((decisions + 1) * length (blocks_of script)) ≡ over (exec script files decisions)
+    → walk (blocks_of script) files decisions ((decisions + 1) * length (blocks_of script)) ≡ at_ending (exec script files decisions)
 walk_is_exec script files decisions formed =
     let ends = script_ends script files decisions formed in
     let within = ends.within in
     let total = (decisions + 1) * length (blocks_of script) in
     let sum : (total - ends.count) + ends.count ≡ total = omega (arith, within) in
-    subst (λ (n : ℕ). walk (blocks_of script) files decisions n ≡ over (exec script files decisions)) sum
+    subst (λ (n : ℕ). walk (blocks_of script) files decisions n ≡ at_ending (exec script files decisions)) sum
     (stays_over (blocks_of script) files (before 0 (start decisions)) (exec script files decisions) ends.count (total - ends.count) ends.comes)

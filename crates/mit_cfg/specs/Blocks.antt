@@ -38,20 +38,20 @@ pub record Cut : Type 0 where
   -- the stretch with it, by the number of the block that is current before it, its own number in the text, and the stretch after it
   pub onto : ℕ → ℕ → Stretch → Stretch
 
-abbrev pub counts : List Cut → ℕ
-counts cuts = sum (map (λ cut. cut.count) cuts)
+abbrev pub cut_counts : List Cut → ℕ
+cut_counts cuts = sum (map (λ cut. cut.count) cuts)
 
-abbrev pub adds : List Cut → ℕ
-adds cuts = sum (map (λ cut. cut.added) cuts)
+abbrev pub cut_adds : List Cut → ℕ
+cut_adds cuts = sum (map (λ cut. cut.added) cuts)
 
 -- the same of statements one after another
-unfoldable pub in_turn : List Cut → ℕ → ℕ → Stretch → Stretch
-in_turn [] at number after = after
-in_turn (cut ∷ cuts) at number after = cut.onto at number (in_turn cuts (at + cut.added) (number + cut.count) after)
+unfoldable pub cut_in_turn : List Cut → ℕ → ℕ → Stretch → Stretch
+cut_in_turn [] at number after = after
+cut_in_turn (cut ∷ cuts) at number after = cut.onto at number (cut_in_turn cuts (at + cut.added) (number + cut.count) after)
 
 -- statements that are left so after the last of them
 abbrev pub left : List Cut → ℕ → ℕ → Leave → Stretch
-left cuts at number leave = in_turn cuts at number (record { first = record { steps = []; leave = leave }; later = [] })
+left cuts at number leave = cut_in_turn cuts at number (record { first = record { steps = []; leave = leave }; later = [] })
 
 -- a block with a condition alone
 abbrev pub condition_alone : ℕ → OpSpec → List ℕ → ℕ → ℕ → Block
@@ -61,20 +61,20 @@ condition_alone number operator args on_true on_false = record {
 }
 
 -- an `if`: the condition ends the current block; then come the true block, the false block and the join
-abbrev pub branched : ℕ → OpSpec → List ℕ → List Cut → List Cut → ℕ → Stretch → Stretch
-branched number operator args on_true on_false at after =
-    let other = at + 2 + adds on_true in
-    let join = other + 1 + adds on_false in record {
+abbrev pub branched_blocks : ℕ → OpSpec → List ℕ → List Cut → List Cut → ℕ → Stretch → Stretch
+branched_blocks number operator args on_true on_false at after =
+    let other = at + 2 + cut_adds on_true in
+    let join = other + 1 + cut_adds on_false in record {
       first = condition_alone number operator args (at + 1) other;
       later = all_of (left on_true (at + 1) (number + 1) (Jump join))
-          ++ all_of (left on_false other (number + 1 + counts on_true) (Jump join))
+          ++ all_of (left on_false other (number + 1 + cut_counts on_true) (Jump join))
           ++ all_of after;
     }
 
 -- a `while`: the current block goes on to the header, which has the condition; then come the body, which goes back to it, and the exit
-abbrev pub looped : ℕ → OpSpec → List ℕ → List Cut → ℕ → Stretch → Stretch
-looped number operator args body at after =
-    let exit = at + 3 + adds body in record {
+abbrev pub looped_blocks : ℕ → OpSpec → List ℕ → List Cut → ℕ → Stretch → Stretch
+looped_blocks number operator args body at after =
+    let exit = at + 3 + cut_adds body in record {
       first = record { steps = []; leave = Jump (at + 1) };
       later = condition_alone number operator args (at + 2) exit
           ∷ all_of (left body (at + 2) (number + 1) (Jump (at + 1)))
@@ -94,14 +94,14 @@ cut_step (stmt.Write operator args) = record {
   onto = λ at number after. preceded (step_of number None operator args) after;
 }
 cut_step (stmt.If operator args on_true on_false) = record {
-  count = 1 + counts on_true + counts on_false;
-  added = 3 + adds on_true + adds on_false;
-  onto = λ at number after. branched number operator args on_true on_false at after;
+  count = 1 + cut_counts on_true + cut_counts on_false;
+  added = 3 + cut_adds on_true + cut_adds on_false;
+  onto = λ at number after. branched_blocks number operator args on_true on_false at after;
 }
 cut_step (stmt.While operator args body) = record {
-  count = 1 + counts body;
-  added = 3 + adds body;
-  onto = λ at number after. looped number operator args body at after;
+  count = 1 + cut_counts body;
+  added = 3 + cut_adds body;
+  onto = λ at number after. looped_blocks number operator args body at after;
 }
 
 abbrev pub cut_of : Stmt → Cut

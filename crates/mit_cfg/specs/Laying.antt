@@ -4,13 +4,13 @@ use Rattle.mit_ops.specs.declared.kinds.OpSpec.{OpSpec}
 use Rattle.mit_ops.specs.declared.leave.Leave.{Leave}
 use Rattle.mit_ops.specs.declared.leave.Leave.TheVariants.{Branch, Jump}
 use Rattle.mit_cfg.specs.Blocks.{Stretch, step_of}
-use Rattle.mit_cfg.specs.Walk.{block_at}
+use Rattle.mit_cfg.specs.Walk.{numbered_block}
 use Rattle.mit_cfg.specs.declared.block.Block.{Block}
 use Rattle.mit_cfg.specs.declared.build.Builder.{Builder}
 
 -- a block is left in another way
 abbrev pub with_leave : List Block → ℕ → Leave → List Block
-with_leave blocks number leave = slice_set blocks number (record { steps = (block_at blocks number).steps; leave = leave })
+with_leave blocks number leave = slice_set blocks number (record { steps = (numbered_block blocks number).steps; leave = leave })
 
 -- all blocks, where the current one goes on so
 abbrev pub built : Builder → Stretch → List Block
@@ -19,7 +19,7 @@ built builder after =
     ++ record { steps = builder.steps.items ++ after.first.steps; leave = after.first.leave } ∷ after.later
 
 -- one step comes to those of the current block
-pub record Adds (target : Option ℕ) (operator : OpSpec) (args : List ℕ) (old new : Builder) : Type 0 where
+pub record AddsStep (target : Option ℕ) (operator : OpSpec) (args : List ℕ) (old new : Builder) : Type 0 where
   pub blocks : new.blocks.items ≡ old.blocks.items
   pub steps : new.steps.items ≡ old.steps.items ++ step_of old.number target operator args ∷ []
   pub number : new.number ≡ old.number + 1

@@ -1,6 +1,6 @@
 //! Blocks that are being built.
 ghost use Rattle.std.specs.Prelude.{◌≡◌, ◌<◌, ◌+◌, ◌^◌, [], ◌∷◌, ◌++◌, IfOk, length};
-ghost use Rattle.mit_cfg.specs.Laying.{Adds, with_leave};
+ghost use Rattle.mit_cfg.specs.Laying.{AddsStep, with_leave};
 
 use crate::block::{Block, Step};
 use mit_ops::{Leave, OpSpec};
@@ -47,7 +47,7 @@ impl Builder {
         args: &Args,
     ) -> Result<Builder, AllocError>
         requires { self.number + 1 < 2 ^ 32 }
-        ensures { IfOk result (Adds target op.now args.now self) }
+        ensures { IfOk result (AddsStep target op.now args.now self) }
     {
         let Builder {
             blocks,

@@ -1,7 +1,7 @@
 //! The blocks of a script.
 ghost use Rattle.std.specs.Prelude.{◌≡◌, ◌≤◌, ◌<◌, ◌+◌, ◌*◌, ◌^◌, IfOk, length, map};
 ghost use Rattle.mit_lex.specs.declared.limits.TheConstants.{MAX_SCRIPT};
-ghost use Rattle.mit_cfg.specs.Blocks.{adds, blocks_of, counts, cut_of, in_turn, looped};
+ghost use Rattle.mit_cfg.specs.Blocks.{blocks_of, cut_adds, cut_counts, cut_in_turn, cut_of, looped_blocks};
 ghost use Rattle.mit_cfg.specs.Laying.{Joins, Lays};
 
 use crate::block::Cfg;
@@ -33,10 +33,10 @@ fn add_join(alloc: Global, second: Builder, here: u32, last: u32) -> Result<Buil
 /// Adds the statements of a block.
 #[cycle(add_all)]
 fn add_all(alloc: Global, before: Builder, block: &[Stmt]) -> Result<Builder, AllocError>
-    requires few { before.number + counts (map cut_of block.now) ≤ MAX_SCRIPT + 1 }
+    requires few { before.number + cut_counts (map cut_of block.now) ≤ MAX_SCRIPT + 1 }
     requires blocks { length before.blocks.items ≤ 3 * before.number }
-    ensures { IfOk result (Lays (counts (map cut_of block.now)) (adds (map cut_of block.now))
-        (in_turn (map cut_of block.now)) before) }
+    ensures { IfOk result (Lays (cut_counts (map cut_of block.now)) (cut_adds (map cut_of block.now))
+        (cut_in_turn (map cut_of block.now)) before) }
 {
     let mut built = before;
     for stmt in block {
@@ -54,10 +54,10 @@ fn add_while(
     args: &Args,
     body: &[Stmt],
 ) -> Result<Builder, AllocError>
-    requires few { before.number + 1 + counts (map cut_of body.now) ≤ MAX_SCRIPT + 1 }
+    requires few { before.number + 1 + cut_counts (map cut_of body.now) ≤ MAX_SCRIPT + 1 }
     requires blocks { length before.blocks.items ≤ 3 * before.number }
-    ensures { IfOk result (Lays (1 + counts (map cut_of body.now)) (3 + adds (map cut_of body.now))
-        (λ at number after. looped number op.now args.now (map cut_of body.now) at after) before) }
+    ensures { IfOk result (Lays (1 + cut_counts (map cut_of body.now)) (3 + cut_adds (map cut_of body.now))
+        (λ at number after. looped_blocks number op.now args.now (map cut_of body.now) at after) before) }
 {
     let header = before.current() + 1;
     let entered = before.close(alloc, Leave::Jump(header))?;

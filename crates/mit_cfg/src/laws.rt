@@ -6,7 +6,7 @@ ghost use Rattle.mit_script.specs.Execution.{exec};
 ghost use Rattle.mit_script.specs.Trees.{IsFormed};
 ghost use Rattle.mit_script.specs.declared.tree.Script.{Script};
 ghost use Rattle.mit_cfg.specs.Blocks.{blocks_of};
-ghost use Rattle.mit_cfg.specs.Walk.{over, walk};
+ghost use Rattle.mit_cfg.specs.Walk.{at_ending, walk};
 ghost use Rattle.mit_cfg.specs.declared.block.Block.{Block};
 
 /// Walking the blocks of a script comes to the ending that the script has where it is executed step by step: the same
@@ -15,8 +15,8 @@ ghost use Rattle.mit_cfg.specs.declared.block.Block.{Block};
 pub fn walk_law()
     ensures exec { (script : Script) (files : FileMap) (decisions : ℕ) → IsFormed script
         → walk (blocks_of script) files decisions ((decisions + 1) * length (blocks_of script))
-        ≡ over (exec script files decisions) }
+        ≡ at_ending (exec script files decisions) }
     ensures stays { (blocks : List Block) (files : FileMap) (decisions places more : ℕ) (ending : Ending)
-        → walk blocks files decisions places ≡ over ending
-        → walk blocks files decisions (more + places) ≡ over ending }
+        → walk blocks files decisions places ≡ at_ending ending
+        → walk blocks files decisions (more + places) ≡ at_ending ending }
 {}

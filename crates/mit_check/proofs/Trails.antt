@@ -11,7 +11,7 @@ use Rattle.std.proofs.lemmas.Slice.Zip.{get_or-zip, length-zip}
 use Rattle.std.proofs.lemmas.Grind.{get_or-set_at}
 use Rattle.std.proofs.lemmas.Bool.Decides.{nat_tests}
 use Rattle.mit_script.specs.Accepted.{Check, Known, and_then, assigned_in_both, branched, in_order, is_assigned, rejoined, with_assigned}
-use Rattle.mit_check.specs.Trails.{Extends, are_fresh, known_in, marked, newly}
+use Rattle.mit_check.specs.Trails.{ExtendsTrail, are_fresh, known_in, marked, newly}
 use Rattle.mit_check.specs.declared.tables.Tables.{Tables}
 
 -- ---- what stands at a place
@@ -148,7 +148,7 @@ fresh_newly xs v = by_test (is_assigned xs v) refl
 
 -- one variable may have become assigned
 pub extends_by_one : (old new : Tables) (v : ℕ) → new.trail.items ≡ old.trail.items ++ newly old.assigned.items v
-    → new.assigned.items ≡ set old.assigned.items v true → Extends old new
+    → new.assigned.items ≡ set old.assigned.items v true → ExtendsTrail old new
 extends_by_one old new v trail assigned = record {
   more = newly old.assigned.items v;
   trail = trail;
@@ -157,7 +157,7 @@ extends_by_one old new v trail assigned = record {
 }
 
 -- nothing became assigned
-pub extends_by_none : (old new : Tables) → new.trail.items ≡ old.trail.items → new.assigned.items ≡ old.assigned.items → Extends old new
+pub extends_by_none : (old new : Tables) → new.trail.items ≡ old.trail.items → new.assigned.items ≡ old.assigned.items → ExtendsTrail old new
 extends_by_none old new trail assigned = record { more = []; trail = trail ∙ sym (append-nil old.trail.items); assigned = assigned; fresh = refl }
 
 inside : (xs : List Bool) (i : ℕ) → get_or xs i false ≡ true → i < length xs
@@ -188,7 +188,7 @@ fresh_before xs vs (w ∷ ws) fresh =
     rw (before_by (is_assigned xs w) (is_assigned (marked true vs xs) w) (stays xs vs w) parts.0, fresh_before xs vs ws parts.1) refl
 
 -- one growth after another
-pub extends_twice : (one two three : Tables) → Extends one two → Extends two three → Extends one three
+pub extends_twice : (one two three : Tables) → ExtendsTrail one two → ExtendsTrail two three → ExtendsTrail one three
 extends_twice one two three first second = record {
   more = first.more ++ second.more;
   trail = second.trail ∙ rw first.trail (append_assoc one.trail.items first.more second.more);
@@ -207,7 +207,7 @@ pub record Restored (old last back : Tables) (taken : List ℕ) : Type 0 where
   pub first : last.assigned.items ≡ marked true taken old.assigned.items
   pub fresh : are_fresh old.assigned.items taken ≡ true
 
-pub restored : {old last : Tables} {taken : List ℕ} {size : ℕ} (back : Tables) → size ≡ length old.trail.items → Extends old last
+pub restored : {old last : Tables} {taken : List ℕ} {size : ℕ} (back : Tables) → size ≡ length old.trail.items → ExtendsTrail old last
     → known_in back ≡ with_assigned (marked false (drop size last.trail.items) last.assigned.items) (known_in last)
     → back.trail.items ≡ take size last.trail.items → taken ≡ drop size last.trail.items → Restored old last back taken
 restored {old} {last} {taken} {size} back is extends known trail rest =
@@ -249,7 +249,7 @@ joined before other back after first taken found restored is known =
 pub extends_joined : (before other back after : Tables) (first taken found : List ℕ) → Restored before other back taken → are_fresh before.assigned.items first ≡ true
     → found ≡ filter (is_assigned other.assigned.items) first
     → known_in after ≡ with_assigned (marked true found back.assigned.items) (known_in back)
-    → after.trail.items ≡ back.trail.items ++ found → Extends before after
+    → after.trail.items ≡ back.trail.items ++ found → ExtendsTrail before after
 extends_joined before other back after first taken found restored fresh is known trail = record {
   more = found;
   trail = trail ∙ ap (λ front. front ++ found) restored.trail;

@@ -33,7 +33,7 @@ abbrev pub are_fresh : List Bool → List ℕ → Bool
 are_fresh assigned variables = list_all (λ variable. not (is_assigned assigned variable)) variables
 
 -- the trail has grown by the variables that became assigned, none of which was assigned before
-pub record Extends (old new : Tables) : Type 0 where
+pub record ExtendsTrail (old new : Tables) : Type 0 where
   pub more : List ℕ
   pub trail : new.trail.items ≡ old.trail.items ++ more
   pub assigned : new.assigned.items ≡ marked true more old.assigned.items

@@ -6,7 +6,7 @@ ghost use Rattle.mit_script.specs.Accepted.{checked};
 ghost use Rattle.mit_script.specs.Trees.{IsFormed, count_of, count_of_all};
 ghost use Rattle.mit_check.specs.Bags.{HaveBags};
 ghost use Rattle.mit_check.specs.Tells.{TellsFault};
-ghost use Rattle.mit_check.specs.Trails.{Extends, are_fresh, known_in, marked};
+ghost use Rattle.mit_check.specs.Trails.{ExtendsTrail, are_fresh, known_in, marked};
 
 use crate::faults::CheckStop;
 use crate::operators::{assign, decide, write};
@@ -26,7 +26,7 @@ fn check_all(alloc: Global, tables: Tables, block: &[Stmt]) -> Result<Tables, Ch
     ensures fault { IfErr result (TellsFault
         (spec.in_order (map spec.check_of block.now) (known_in tables))) }
     ensures counted { IfOk result (λ after. after.before ≡ tables.before + count_of_all block.now) }
-    ensures extends { IfOk result (Extends tables) }
+    ensures extends { IfOk result (ExtendsTrail tables) }
 {
     let mut known = tables;
     for stmt in block {
@@ -50,7 +50,7 @@ fn check_other(
     ensures fault { IfErr result (TellsFault (spec.rejoined (map spec.check_of no.now) before.assigned.items
         (spec.with_assigned (marked true first.now before.assigned.items) (known_in before)))) }
     ensures counted { IfOk result (λ after. after.before ≡ before.before + count_of_all no.now) }
-    ensures extends { are_fresh before.assigned.items first.now ≡ true → IfOk result (Extends before) }
+    ensures extends { are_fresh before.assigned.items first.now ≡ true → IfOk result (ExtendsTrail before) }
 {
     let size = before.trail.len();
     let other = check_all(alloc, before, no)?;
@@ -69,7 +69,7 @@ fn check_body(alloc: Global, inside: Tables, body: &[Stmt]) -> Result<Tables, Ch
     ensures fault { IfErr result (TellsFault
         (spec.looped (map spec.check_of body.now) (known_in inside))) }
     ensures counted { IfOk result (λ after. after.before ≡ inside.before + count_of_all body.now) }
-    ensures extends { IfOk result (Extends inside) }
+    ensures extends { IfOk result (ExtendsTrail inside) }
 {
     let size = inside.trail.len();
     let last = check_all(alloc, inside, body)?;
@@ -86,7 +86,7 @@ fn check_one(alloc: Global, tables: Tables, stmt: &Stmt) -> Result<Tables, Check
         spec.check_of stmt.now (known_in tables) ≡ Ok (known_in after)) }
     ensures fault { IfErr result (TellsFault (spec.check_of stmt.now (known_in tables))) }
     ensures counted { IfOk result (λ after. after.before ≡ tables.before + count_of stmt.now) }
-    ensures extends { IfOk result (Extends tables) }
+    ensures extends { IfOk result (ExtendsTrail tables) }
 {
     match stmt {
         Stmt::Assign { target, op, args } => assign(alloc, tables, *target, op, args.as_slice()),

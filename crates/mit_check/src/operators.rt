@@ -5,7 +5,7 @@ ghost use Rattle.mit_ops.specs.Kinds.{bag_inputs_of};
 ghost use Rattle.mit_ops.specs.Results.{IsBagType, Refuses};
 ghost use Rattle.mit_script.specs.Accepted as spec;
 ghost use Rattle.mit_check.specs.Tells.{TellsFault};
-ghost use Rattle.mit_check.specs.Trails.{Extends, TellsOperatorRefusal, known_in};
+ghost use Rattle.mit_check.specs.Trails.{ExtendsTrail, TellsOperatorRefusal, known_in};
 
 use crate::faults::CheckStop;
 use crate::tables::{Kept, Tables};
@@ -113,7 +113,7 @@ pub(crate) fn assign(
         spec.assigned_by target op.now args.now (known_in tables) ≡ Ok (known_in after)) }
     ensures fault { IfErr result (TellsFault (spec.assigned_by target op.now args.now (known_in tables))) }
     ensures counted { IfOk result (λ after. after.before ≡ tables.before + 1) }
-    ensures extends { IfOk result (Extends tables) }
+    ensures extends { IfOk result (ExtendsTrail tables) }
 {
     let is = judge(alloc, &tables, op, args)?;
     if !tables.is_kept(target, is.get()) {
@@ -170,7 +170,7 @@ pub(crate) fn write(
         spec.written_by op.now args.now (known_in tables) ≡ Ok (known_in after)) }
     ensures fault { IfErr result (TellsFault (spec.written_by op.now args.now (known_in tables))) }
     ensures counted { IfOk result (λ after. after.before ≡ tables.before + 1) }
-    ensures extends { IfOk result (Extends tables) }
+    ensures extends { IfOk result (ExtendsTrail tables) }
 {
     judge(alloc, &tables, op, args)?;
     Ok(pass(tables))
@@ -189,7 +189,7 @@ pub(crate) fn decide(
         spec.decided_by op.now args.now (known_in tables) ≡ Ok (known_in after)) }
     ensures fault { IfErr result (TellsFault (spec.decided_by op.now args.now (known_in tables))) }
     ensures counted { IfOk result (λ after. after.before ≡ tables.before + 1) }
-    ensures extends { IfOk result (Extends tables) }
+    ensures extends { IfOk result (ExtendsTrail tables) }
 {
     let is = judge(alloc, &tables, op, args)?;
     if !is_condition(is.get()) {

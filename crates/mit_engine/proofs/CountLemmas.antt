@@ -6,7 +6,7 @@ use Rattle.std.proofs.lemmas.Option.{get_or_from_slice_get, slice_get_within}
 use Rattle.mit_rows.specs.Bags.{BagOf}
 use Rattle.mit_shelf.specs.Shelf.{Kept}
 use Rattle.mit_engine.specs.Operators.{JobState, actions_left, assigned_after, edge_left, first_edge, first_job, first_operator, left_of, operator_left, sources_from, sources_of, unheard}
-use Rattle.mit_engine.specs.Running.{AtFault, EdgeHolds, Made, Part, PathHolds, Stands, Unmade, verdict_of}
+use Rattle.mit_engine.specs.Running.{AtFault, EdgeHolds, JobStands, Made, MadePart, PathHolds, Unmade, verdict_of}
 use Rattle.mit_engine.specs.Thin.{edges_of}
 use Rattle.mit_engine.specs.declared.edges.Received.{Received}
 use Rattle.mit_engine.specs.declared.operators.Operator.{Operator}
@@ -44,7 +44,7 @@ first_left steps = omega (arith, first_operators_left [] 0 steps)
 -- ---- where each operator is heard Done
 
 -- an edge of a polled operator is fed
-polled_edge : (part : Part) (polled : Bool) (parts : List BagOf) (received : Received) → EdgeHolds part polled parts received → polled ≡ true
+polled_edge : (part : MadePart) (polled : Bool) (parts : List BagOf) (received : Received) → EdgeHolds part polled parts received → polled ≡ true
     → left_of received ≡ 0
 polled_edge Unmade polled parts received holds is = cc
 polled_edge (AtFault kind) polled parts received holds is = cc
@@ -53,7 +53,7 @@ polled_edge (Made bag) polled parts received (inr (inl here)) is = cc
 polled_edge (Made bag) polled parts received (inr (inr fed)) is = rw fed.2
 
 -- of an operator that is heard Done none is left
-operator_done : (steps : List ThinStep) (parts : ℕ → Part) (at : ℕ) (operator : Operator) → HeldAt steps parts at operator
+operator_done : (steps : List ThinStep) (parts : ℕ → MadePart) (at : ℕ) (operator : Operator) → HeldAt steps parts at operator
     → operator.heard ≡ Some outcome.Done → operator_left operator ≡ 0
 operator_done steps parts at operator here done =
     let made = done_made (parts at) operator.polled operator.reports operator.heard here.held.reports done in
@@ -62,13 +62,13 @@ operator_done steps parts at operator here done =
     rw (made.1, done, edges)
 
 -- where an operator has made its bag, the path is learned
-path_learned : (parts : ℕ → Part) (path : List ℕ) (learned : Bool) (at : ℕ) (bag : BagOf) → PathHolds parts path learned → parts at ≡ Made bag
+path_learned : (parts : ℕ → MadePart) (path : List ℕ) (learned : Bool) (at : ℕ) (bag : BagOf) → PathHolds parts path learned → parts at ≡ Made bag
     → path ≡ []
 path_learned parts path learned at bag (inl (known, waits, unmade)) made = cc (unmade at)
 path_learned parts path learned at bag (inr known) made = known.1
 
 -- where each operator is heard Done none is left
-pub complete_left : {steps : List ThinStep} {shelf : Kept} {job : JobState} → Stands steps shelf job → verdict_of job ≡ verdict.Complete
+pub complete_left : {steps : List ThinStep} {shelf : Kept} {job : JobState} → JobStands steps shelf job → verdict_of job ≡ verdict.Complete
     → 0 < length steps → actions_left job ≡ 0
 complete_left {steps} {job = job} stands complete some =
     let holds = stands.holds in

@@ -7,8 +7,8 @@ use Rattle.std.proofs.lemmas.Simd.{map-map}
 use Rattle.std.proofs.lemmas.Option.{get_or_from_slice_get}
 use Rattle.mit_rows.specs.Bags.{BagOf}
 use Rattle.mit_shelf.specs.Shelf.{Kept}
-use Rattle.mit_engine.specs.Operators.{JobState, edge_left, first_edge, first_job, first_operator, heard_of, hears, left_of, operator_left, received_of, sources, takes, unheard, with_operators}
-use Rattle.mit_engine.specs.Running.{AtFault, EdgeHolds, Goes, HasPart, Holds, Made, OperatorCan, OperatorHolds, Part, PathHolds, ReportsPart, StagesPart, Stands, Unmade}
+use Rattle.mit_engine.specs.Operators.{JobState, edge_left, first_edge, first_job, first_operator, heard_of, hears, left_of, operator_left, received_of, sources, takes_part, unheard, with_operators}
+use Rattle.mit_engine.specs.Running.{AtFault, EdgeHolds, Goes, HasPart, JobHolds, JobStands, Made, MadePart, OperatorCan, OperatorHolds, PathHolds, ReportsPart, StagesPart, Unmade}
 use Rattle.mit_engine.specs.declared.edges.Edge.{Edge}
 use Rattle.mit_engine.specs.declared.edges.Received.{Received}
 use Rattle.mit_engine.specs.declared.edges.Received.TheVariants.{Awaited, Here}
@@ -38,7 +38,7 @@ first_holds statement from at = record {
   staged = StagesPart_unmade statement None;
 }
 
-starts_with : (steps : List ThinStep) (shelf : Kept) → Stands steps shelf (first_job steps)
+starts_with : (steps : List ThinStep) (shelf : Kept) → JobStands steps shelf (first_job steps)
 starts_with steps shelf = record {
   parts = λ _. Unmade;
   holds = record {
@@ -53,19 +53,19 @@ starts_with steps shelf = record {
   means = λ files agrees k statement from does leads. tt;
 }
 
-pub starts : (steps : List ThinStep) (shelf : Kept) (job : JobState) → job ≡ first_job steps → Stands steps shelf job
-starts steps shelf job is = let P : JobState → Type 0 = Stands steps shelf in subst P (sym is) (starts_with steps shelf)
+pub starts : (steps : List ThinStep) (shelf : Kept) (job : JobState) → job ≡ first_job steps → JobStands steps shelf job
+starts steps shelf job is = let P : JobState → Type 0 = JobStands steps shelf in subst P (sym is) (starts_with steps shelf)
 
 -- ---- the path is learned
 
-PathHolds_learned : (parts : ℕ → Part) (path : List ℕ) (learned : Bool) → PathHolds parts path learned → 0 < length path
+PathHolds_learned : (parts : ℕ → MadePart) (path : List ℕ) (learned : Bool) → PathHolds parts path learned → 0 < length path
     → (drop 1 path ≡ []) × (length path ≡ 1)
 PathHolds_learned parts path learned begun some = elim begun [
   | inl e ↦ (ap (drop 1) e.1, ap length e.1)
   | inr e ↦ absurd (omega (arith, ap length e.1))
 ]
 
-pub learn_goes : {steps : List ThinStep} {shelf : Kept} {job : JobState} → Stands steps shelf job → 0 < length job.path
+pub learn_goes : {steps : List ThinStep} {shelf : Kept} {job : JobState} → JobStands steps shelf job → 0 < length job.path
     → Goes steps shelf job (record { path = drop 1 job.path; learned = true; operators = job.operators })
 learn_goes {job = job} stands some =
     let none = PathHolds_learned stands.parts job.path job.learned stands.holds.begun some in
@@ -81,10 +81,10 @@ learn_goes {job = job} stands some =
 -- ---- one operator is delivered a message
 
 -- it still holds what the parts say
-Holds-set : {steps : List ThinStep} {parts : ℕ → Part} {job : JobState} (at : ℕ) (operator operator' : Operator)
+Holds-set : {steps : List ThinStep} {parts : ℕ → MadePart} {job : JobState} (at : ℕ) (operator operator' : Operator)
     → slice_get job.operators at ≡ Some operator
     → ((statement : ThinStep) (from : List ℕ) → OperatorHolds statement from parts at operator → OperatorHolds statement from parts at operator')
-    → Holds steps parts job → Holds steps parts (with_operators job (slice_set job.operators at operator'))
+    → JobHolds steps parts job → JobHolds steps parts (with_operators job (slice_set job.operators at operator'))
 Holds-set {parts = parts} {job} at operator operator' is keeps holds =
     let here = held_at holds at operator is in
     Holds_after here.statement parts holds.begun is here.stated (After-set job.operators at operator') holds (keeps here.statement)
@@ -92,7 +92,7 @@ Holds-set {parts = parts} {job} at operator operator' is keeps holds =
 
 -- where it holds it, and one action fewer is left of it
 delivered : {steps : List ThinStep} {shelf : Kept} {job : JobState} (at : ℕ) (operator operator' : Operator) → slice_get job.operators at ≡ Some operator
-    → (stands : Stands steps shelf job)
+    → (stands : JobStands steps shelf job)
     → ((statement : ThinStep) (from : List ℕ) → OperatorHolds statement from stands.parts at operator → OperatorHolds statement from stands.parts at operator')
     → operator_left operator' + 1 ≡ operator_left operator → Goes steps shelf job (with_operators job (slice_set job.operators at operator'))
 delivered {job = job} at operator operator' is stands keeps less = record {
@@ -102,13 +102,13 @@ delivered {job = job} at operator operator' is stands keeps less = record {
 
 -- ---- a report is heard
 
-ReportsPart_heard : (part : Part) (polled : Bool) (outcome : Outcome) (later : List Outcome) (heard : Option Outcome)
+ReportsPart_heard : (part : MadePart) (polled : Bool) (outcome : Outcome) (later : List Outcome) (heard : Option Outcome)
     → ReportsPart part polled (outcome ∷ later) heard → ReportsPart part polled later (Some outcome) × (heard ≡ None)
 ReportsPart_heard Unmade polled outcome later heard is = absurd cc
 ReportsPart_heard (Made bag) polled outcome later heard is = elim is.1 [ inl e ↦ ((is.0, inr (cc, cc)), e.1) | inr e ↦ absurd cc ]
 ReportsPart_heard (AtFault kind) polled outcome later heard is = elim is.1 [ inl e ↦ ((is.0, inr (cc, cc)), e.1) | inr e ↦ absurd cc ]
 
-heard_holds : {statement : ThinStep} {from : List ℕ} {parts : ℕ → Part} {at : ℕ} {operator : Operator} (reports : List Outcome) → operator.reports ≡ reports
+heard_holds : {statement : ThinStep} {from : List ℕ} {parts : ℕ → MadePart} {at : ℕ} {operator : Operator} (reports : List Outcome) → operator.reports ≡ reports
     → 0 < length reports → OperatorHolds statement from parts at operator → OperatorHolds statement from parts at (heard_of operator reports)
 heard_holds [] are some holds = absurd (omega arith)
 heard_holds {parts = parts} {at} {operator} (outcome ∷ later) are some holds =
@@ -120,7 +120,7 @@ heard_holds {parts = parts} {at} {operator} (outcome ∷ later) are some holds =
       staged = holds.staged;
     }
 
-heard_left : (part : Part) (operator : Operator) (reports : List Outcome) → operator.reports ≡ reports → 0 < length reports
+heard_left : (part : MadePart) (operator : Operator) (reports : List Outcome) → operator.reports ≡ reports → 0 < length reports
     → ReportsPart part operator.polled operator.reports operator.heard → operator_left (heard_of operator reports) + 1 ≡ operator_left operator
 heard_left part operator [] are some is = absurd (omega arith)
 heard_left part operator (outcome ∷ later) are some is =
@@ -128,7 +128,7 @@ heard_left part operator (outcome ∷ later) are some is =
     omega (arith, ap unheard (ReportsPart_heard part operator.polled outcome later operator.heard (subst P are is)).1)
 
 pub hear_goes : {steps : List ThinStep} {shelf : Kept} {job : JobState} {at : ℕ} → (can : OperatorCan job at (λ operator. 0 < length operator.reports))
-    → Stands steps shelf job → Goes steps shelf job (with_operators job (slice_set job.operators at (hears can.operator)))
+    → JobStands steps shelf job → Goes steps shelf job (with_operators job (slice_set job.operators at (hears can.operator)))
 hear_goes {at = at} can stands =
     let operator = can.operator in
     let before = (held_at stands.holds at operator can.there).held in
@@ -137,7 +137,7 @@ hear_goes {at = at} can stands =
 
 -- ---- a part is taken
 
-EdgeHolds_taken : (part : Part) (polled : Bool) (bag : BagOf) (later : List BagOf) (received : Received)
+EdgeHolds_taken : (part : MadePart) (polled : Bool) (bag : BagOf) (later : List BagOf) (received : Received)
     → EdgeHolds part polled (bag ∷ later) received → EdgeHolds part polled later (Here bag) × (received ≡ Awaited)
 EdgeHolds_taken Unmade polled bag later received is = absurd cc
 EdgeHolds_taken (AtFault kind) polled bag later received is = absurd cc
@@ -147,10 +147,10 @@ EdgeHolds_taken (Made made) polled bag later received is = elim is [
 ]
 
 -- what is left of an edge after its part was taken
-abbrev IsTaken : Part → Bool → Edge → Edge → Type 0
+abbrev IsTaken : MadePart → Bool → Edge → Edge → Type 0
 IsTaken part polled edge edge' = (edge'.from ≡ edge.from) × EdgeHolds part polled edge'.parts edge'.received × (edge_left edge' + 1 ≡ edge_left edge)
 
-edge_taken : (part : Part) (polled : Bool) (edge : Edge) (parts : List BagOf) → edge.parts ≡ parts → 0 < length parts
+edge_taken : (part : MadePart) (polled : Bool) (edge : Edge) (parts : List BagOf) → edge.parts ≡ parts → 0 < length parts
     → EdgeHolds part polled edge.parts edge.received → IsTaken part polled edge (received_of edge parts)
 edge_taken part polled edge [] are some is = absurd (omega arith)
 edge_taken part polled edge (bag ∷ later) are some is =
@@ -159,7 +159,7 @@ edge_taken part polled edge (bag ∷ later) are some is =
     (refl, after.0, omega (arith, ap left_of after.1))
 
 -- an edge of an operator changes, and still holds what the parts say
-taken_holds : {statement : ThinStep} {from : List ℕ} {parts : ℕ → Part} {at : ℕ} {operator : Operator} (input : ℕ) (edge edge' : Edge)
+taken_holds : {statement : ThinStep} {from : List ℕ} {parts : ℕ → MadePart} {at : ℕ} {operator : Operator} (input : ℕ) (edge edge' : Edge)
     → slice_get operator.inputs input ≡ Some edge → IsTaken (parts edge.from) operator.polled edge edge'
     → OperatorHolds statement from parts at operator → OperatorHolds statement from parts at (record operator { inputs = slice_set operator.inputs input edge' })
 taken_holds {parts = parts} {operator = operator} input edge edge' there taken holds = record {
@@ -177,15 +177,15 @@ taken_holds {parts = parts} {operator = operator} input edge edge' there taken h
 
 -- an operator with the message of one of its edges received
 abbrev pub takes_at : ℕ → Operator → Edge → Operator
-takes_at input operator edge = record operator { inputs = slice_set operator.inputs input (takes edge) }
+takes_at input operator edge = record operator { inputs = slice_set operator.inputs input (takes_part edge) }
 
 pub take_goes : {steps : List ThinStep} {shelf : Kept} {job : JobState} {at input : ℕ} → (can : OperatorCan job at (HasPart input))
-    → Stands steps shelf job → Goes steps shelf job (with_operators job (slice_set job.operators at (takes_at input can.operator can.can.edge)))
+    → JobStands steps shelf job → Goes steps shelf job (with_operators job (slice_set job.operators at (takes_at input can.operator can.can.edge)))
 take_goes {at = at} {input} can stands =
     let operator = can.operator in
     let edge = can.can.edge in
     let there = can.can.there in
     let before = (held_at stands.holds at operator can.there).held in
     let taken = edge_taken (stands.parts edge.from) operator.polled edge edge.parts refl can.can.some (before.edges input edge there) in
-    delivered at operator (takes_at input operator edge) can.there stands (λ statement from holds. taken_holds input edge (takes edge) there taken holds)
-    (omega (arith, sum_by-set_less edge_left operator.inputs input edge (takes edge) there taken.2))
+    delivered at operator (takes_at input operator edge) can.there stands (λ statement from holds. taken_holds input edge (takes_part edge) there taken holds)
+    (omega (arith, sum_by-set_less edge_left operator.inputs input edge (takes_part edge) there taken.2))

@@ -3,8 +3,8 @@ use Rattle.std.proofs.Common.{◌≡◌, ◌∙◌, ◌≤◌, ◌++◌, ℕ, Li
 use Rattle.std.specs.Prelude.{Bool, true, false, if◌then◌else◌, nat_lt, slice_set}
 use Rattle.std.proofs.lemmas.List.{length-append, length-set}
 use Rattle.std.proofs.lemmas.Option.{slice_get_within}
-use Rattle.mit_engine.specs.Operators.{Fits, assigned_after}
-use Rattle.mit_engine.specs.Thin.{FormedFrom, IsFormedThin, MayAssign, assign, columns_after}
+use Rattle.mit_engine.specs.Operators.{FitsVariables, assigned_after}
+use Rattle.mit_engine.specs.Thin.{FormedFrom, IsFormedThin, MayAssign, columns_after, item_put}
 use Rattle.mit_engine.specs.declared.thin.ThinStep.{ThinStep}
 use Rattle.mit_engine.specs.declared.thin.ThinStep.TheVariants as step
 
@@ -22,7 +22,7 @@ target_within columns target count (inl new) = omega arith
 target_within columns target count (inr old) = omega (arith, slice_get_within columns target count old)
 
 length-assign : (assigned columns : List ℕ) (target at count : ℕ) → length assigned ≡ length columns
-    → length (assign assigned target at) ≡ length (columns_after columns target count)
+    → length (item_put assigned target at) ≡ length (columns_after columns target count)
 length-assign assigned columns target at count sized = rw sized (by_test (nat_lt target (length columns)))
   where
     by_test : (test : Bool) → length (if test then slice_set assigned target at else assigned ++ at ∷ []) ≡ length (if test then columns else columns ++ count ∷ [])
@@ -31,7 +31,7 @@ length-assign assigned columns target at count sized = rw sized (by_test (nat_lt
 
 -- what the first statement names is assigned, and the later ones are formed after it
 pub record FormedNext (assigned : List ℕ) (at : ℕ) (first : ThinStep) (steps : List ThinStep) : Type 0 where
-  pub fits : Fits (length assigned) first
+  pub fits : FitsVariables (length assigned) first
   pub later : FormedAfter (assigned_after assigned at first) steps
 
 pub formed_next : (assigned : List ℕ) (at : ℕ) (first : ThinStep) (steps : List ThinStep) → FormedAfter assigned (first ∷ steps) → FormedNext assigned at first steps

@@ -5,7 +5,7 @@ use Rattle.std.specs.List.{All}
 use Rattle.std.proofs.lemmas.List.{length-set}
 use Rattle.std.proofs.lemmas.Option.{slice_get-map}
 use Rattle.mit_engine.specs.Operators.{JobState, actions_left, operator_left, sources, with_operators}
-use Rattle.mit_engine.specs.Running.{Holds, OperatorHolds, Part, PathHolds}
+use Rattle.mit_engine.specs.Running.{JobHolds, MadePart, OperatorHolds, PathHolds}
 use Rattle.mit_engine.specs.declared.edges.Edge.{Edge}
 use Rattle.mit_engine.specs.declared.operators.Operator.{Operator}
 use Rattle.mit_engine.specs.declared.thin.ThinStep.{ThinStep}
@@ -14,14 +14,14 @@ use Rattle.mit_engine.proofs.SourceLemmas.{sources_at}
 
 -- ---- the statement and the sources of an operator
 
-pub record HeldAt (steps : List ThinStep) (parts : ℕ → Part) (at : ℕ) (operator : Operator) : Type 0 where
+pub record HeldAt (steps : List ThinStep) (parts : ℕ → MadePart) (at : ℕ) (operator : Operator) : Type 0 where
   pub statement : ThinStep
   pub from : List ℕ
   pub stated : slice_get steps at ≡ Some statement
   pub sourced : slice_get (sources steps) at ≡ Some from
   pub held : OperatorHolds statement from parts at operator
 
-pub held_at : {steps : List ThinStep} {parts : ℕ → Part} {job : JobState} → Holds steps parts job
+pub held_at : {steps : List ThinStep} {parts : ℕ → MadePart} {job : JobState} → JobHolds steps parts job
     → (at : ℕ) (operator : Operator) → slice_get job.operators at ≡ Some operator → HeldAt steps parts at operator
 held_at {steps} {job = job} holds at operator is =
     let does = got_beside job.operators steps at operator holds.sized is in
@@ -55,13 +55,13 @@ After-set operators at own = record {
 }
 
 -- the operators hold what new parts say, where the path, the changed operator and each other one do
-pub Holds_after : {steps : List ThinStep} {parts : ℕ → Part} {job : JobState} {after : List Operator} {at : ℕ} {own operator : Operator}
-    {other : Operator → Operator} (statement : ThinStep) (new : ℕ → Part) → PathHolds new job.path job.learned → slice_get job.operators at ≡ Some operator
-    → slice_get steps at ≡ Some statement → After job.operators after at own other → Holds steps parts job
+pub Holds_after : {steps : List ThinStep} {parts : ℕ → MadePart} {job : JobState} {after : List Operator} {at : ℕ} {own operator : Operator}
+    {other : Operator → Operator} (statement : ThinStep) (new : ℕ → MadePart) → PathHolds new job.path job.learned → slice_get job.operators at ≡ Some operator
+    → slice_get steps at ≡ Some statement → After job.operators after at own other → JobHolds steps parts job
     → ((from : List ℕ) → OperatorHolds statement from parts at operator → OperatorHolds statement from new at own)
     → ((k : ℕ) (old : Operator) (again : ThinStep) (from : List ℕ) → ¬ (k ≡ at) → slice_get (sources steps) k ≡ Some from
     → OperatorHolds again from parts k old → OperatorHolds again from new k (other old))
-    → Holds steps new (with_operators job after)
+    → JobHolds steps new (with_operators job after)
 Holds_after {steps} {at = at} {own} {operator} statement new begun is does changes holds own_keeps other_keeps = record {
   sized = changes.sized ∙ holds.sized;
   begun = begun;

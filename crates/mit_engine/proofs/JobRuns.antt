@@ -9,9 +9,9 @@ use Rattle.mit_engine.specs.Job.{AnswersEnding}
 use Rattle.mit_engine.specs.Operators.{JobState, actions_left, first_job, staged_writes}
 use Rattle.mit_engine.specs.Picks.{GrowsBy, GrowsWithin}
 use Rattle.mit_shelf.specs.Printed.{published}
-use Rattle.mit_engine.specs.Running.{Goes, Stands, verdict_of}
+use Rattle.mit_engine.specs.Running.{Goes, JobStands, verdict_of}
 use Rattle.mit_shelf.specs.Shelf.{Agrees, Kept}
-use Rattle.mit_engine.specs.Thin.{Faulted, IsFormedThin, actions_of, edges_of, exec}
+use Rattle.mit_engine.specs.Thin.{Faulted, IsFormedThin, action_count, edges_of, exec_thin}
 use Rattle.mit_ops.specs.declared.faults.FaultKind.{FaultKind}
 use Rattle.mit_engine.specs.declared.job.Verdict.TheVariants as verdict
 use Rattle.mit_engine.specs.declared.schedule.Pick.{Pick}
@@ -68,17 +68,17 @@ agrees_first (Some files) shelf = λ agrees. agrees
 -- a run of these statements so far, with the actions that it took
 pub record Ran (steps : List ThinStep) (shelf : Kept) (job : JobState) (actions : ℕ) : Type 0 where
   pub formed : IsFormedThin steps
-  pub stands : Stands steps shelf job
+  pub stands : JobStands steps shelf job
   pub counted : actions + actions_left job ≡ 1 + 2 * length steps + sum_by edges_of steps
   pub idle : length steps ≡ 0 → actions ≡ 0
 
 -- a job that runs has statements
-some_statements : {steps : List ThinStep} {shelf : Kept} {job : JobState} → Stands steps shelf job → verdict_of job ≡ verdict.Running → 0 < length steps
+some_statements : {steps : List ThinStep} {shelf : Kept} {job : JobState} → JobStands steps shelf job → verdict_of job ≡ verdict.Running → 0 < length steps
 some_statements {job = job} stands is =
     let first = first_unheard 0 job.operators is in
     omega (arith, slice_get_within job.operators first.place first.operator first.there, stands.holds.sized)
 
-all_actions : (steps : List ThinStep) → 0 < length steps → 1 + 2 * length steps + sum_by edges_of steps ≡ actions_of steps
+all_actions : (steps : List ThinStep) → 0 < length steps → 1 + 2 * length steps + sum_by edges_of steps ≡ action_count steps
 all_actions [] none = absurd (omega arith)
 all_actions (first ∷ steps) some = refl
 
@@ -101,7 +101,7 @@ run_goes ran is goes = record {
 
 -- one that has not ended has taken less than all, which are few
 pub run_within : {steps : List ThinStep} {shelf : Kept} {job : JobState} {actions : ℕ} → Ran steps shelf job actions → verdict_of job ≡ verdict.Running
-    → (actions + 1 ≤ actions_of steps) × (actions + 1 ≤ 4001)
+    → (actions + 1 ≤ action_count steps) × (actions + 1 ≤ 4001)
 run_within {steps} {job = job} ran is = (
   omega (arith, something_left job is, ran.counted, all_actions steps (some_statements ran.stands is)),
   omega (arith, something_left job is, ran.counted, few_actions steps ran.formed.0),
@@ -109,16 +109,16 @@ run_within {steps} {job = job} ran is = (
 
 -- one that is complete has taken all
 pub run_all : {steps : List ThinStep} {shelf : Kept} {job : JobState} {actions : ℕ} → Ran steps shelf job actions → verdict_of job ≡ verdict.Complete
-    → actions ≡ actions_of steps
+    → actions ≡ action_count steps
 run_all {steps = []} ran is = ran.idle refl
 run_all {steps = first ∷ steps} ran is =
     omega (arith, complete_left ran.stands is (omega arith), ran.counted, all_actions (first ∷ steps) (omega arith))
 
 -- the log of one that stopped at its next action is no longer than that of one that is complete
 pub stopped_within : {steps : List ThinStep} {shelf : Kept} {job : JobState} {actions : ℕ} (script : List ThinStep) (first middle last : List Pick) → steps ≡ script
-    → Ran steps shelf job actions → verdict_of job ≡ verdict.Running → GrowsBy actions first middle → GrowsWithin 1 middle last → GrowsWithin (actions_of script) first last
+    → Ran steps shelf job actions → verdict_of job ≡ verdict.Running → GrowsBy actions first middle → GrowsWithin 1 middle last → GrowsWithin (action_count script) first last
 stopped_within {actions = actions} script first middle last same ran is before after =
-    within_more actions (actions_of script) first middle last before after (omega (arith, (run_within ran is).0, ap actions_of same))
+    within_more actions (action_count script) first middle last before after (omega (arith, (run_within ran is).0, ap action_count same))
 
 -- the statement at fault is one of few
 pub run_fault : {steps : List ThinStep} {shelf : Kept} {job : JobState} {actions at : ℕ} {kind : FaultKind} → Ran steps shelf job actions
@@ -129,17 +129,17 @@ run_fault {job = job} {at = at} {kind} ran is = omega (arith, fault_within 0 job
 
 pub fault_answers : {steps : List ThinStep} {shelf : Kept} {job : JobState} {actions at : ℕ} {kind : FaultKind} (script : List ThinStep) → steps ≡ script
     → Ran steps shelf job actions → verdict_of job ≡ verdict.Fault at kind → (files : FileMap) → Agrees shelf files
-    → (exec files script ≡ Faulted (at + 1) kind) × ◌≡◌ {A = ℕ} 0 0
+    → (exec_thin files script ≡ Faulted (at + 1) kind) × ◌≡◌ {A = ℕ} 0 0
 fault_answers {at = at} {kind} script same ran is files agrees =
-    (ap (exec files) (sym same) ∙ fault_ends files at kind ran.formed ran.stands agrees is, refl)
+    (ap (exec_thin files) (sym same) ∙ fault_ends files at kind ran.formed ran.stands agrees is, refl)
 
 pub complete_answers : {steps : List ThinStep} {shelf : Kept} {job : JobState} {actions : ℕ} (script : List ThinStep) (written : FileMap) → steps ≡ script
     → Ran steps shelf job actions → verdict_of job ≡ verdict.Complete → written ≡ published (staged_writes steps job.operators)
-    → (files : FileMap) → Agrees shelf files → AnswersEnding script (exec files script) (Ok (record { files = written; blocks = 1; actions = actions }))
+    → (files : FileMap) → Agrees shelf files → AnswersEnding script (exec_thin files script) (Ok (record { files = written; blocks = 1; actions = actions }))
 complete_answers {steps} {job = job} script written same ran is filed files agrees = (
   staged_writes steps job.operators,
-  ap (exec files) (sym same) ∙ complete_ends files ran.formed ran.stands agrees is,
+  ap (exec_thin files) (sym same) ∙ complete_ends files ran.formed ran.stands agrees is,
   filed,
   refl,
-  run_all ran is ∙ ap actions_of same,
+  run_all ran is ∙ ap action_count same,
 )

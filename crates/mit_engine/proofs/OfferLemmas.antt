@@ -6,8 +6,8 @@ use Rattle.std.proofs.lemmas.List.Elements.{All-append, All-cons, All-nil}
 use Rattle.std.proofs.lemmas.Option.{same_Some, slice_get_within}
 use Rattle.mit_rows.specs.Bags.{BagOf}
 use Rattle.mit_shelf.specs.Shelf.{Kept}
-use Rattle.mit_engine.specs.Operators.{JobState, can_poll, is_here}
-use Rattle.mit_engine.specs.Running.{AtFault, EdgeHolds, Holds, IsEnabled, Made, Part, PathHolds, Reports, ReportsPart, Stands, Unmade, edges_from, offer_of, parts_from, polls_from, reports_from, verdict_of, where_any}
+use Rattle.mit_engine.specs.Operators.{JobState, is_here, is_pollable}
+use Rattle.mit_engine.specs.Running.{AtFault, EdgeHolds, IsEnabled, JobHolds, JobStands, Made, MadePart, PathHolds, ReportsOutcome, ReportsPart, Unmade, edge_parts_from, offer_of, parts_from, polls_from, reports_from, verdict_of, where_any}
 use Rattle.mit_engine.specs.Thin.{IsFormedThin}
 use Rattle.mit_engine.specs.declared.edges.Edge.{Edge}
 use Rattle.mit_engine.specs.declared.edges.Received.{Received}
@@ -48,11 +48,11 @@ all_reports P at (first ∷ operators) f =
 
 all_edges : (P : Action → Type 0) (at input : ℕ) (edges : List Edge)
     → ((j n : ℕ) (edge : Edge) → n ≡ input + j → slice_get edges j ≡ Some edge → 0 < length edge.parts → P (action.Take at n))
-    → All P (edges_from at input edges)
-unfolding edges_from
+    → All P (edge_parts_from at input edges)
+unfolding edge_parts_from
 all_edges P at input [] f = All-nil P
 all_edges P at input (first ∷ edges) f =
-    All-append P (where_any first.parts (action.Take at input)) (edges_from at (input + 1) edges)
+    All-append P (where_any first.parts (action.Take at input)) (edge_parts_from at (input + 1) edges)
     (all_where P first.parts (action.Take at input) (λ some. f 0 input first (omega arith) refl some))
     (all_edges P at (input + 1) edges (λ j n edge is there some. f (suc j) n edge (omega arith) there some))
 
@@ -67,18 +67,18 @@ all_parts : (P : Action → Type 0) (at : ℕ) (operators : List Operator)
 unfolding parts_from
 all_parts P at [] f = All-nil P
 all_parts P at (first ∷ operators) f =
-    All-append P (edges_from at 0 first.inputs) (parts_from (at + 1) operators)
+    All-append P (edge_parts_from at 0 first.inputs) (parts_from (at + 1) operators)
     (all_edges P at 0 first.inputs (λ j n edge is there some. f 0 at n first edge (omega arith) refl (from_none first.inputs j n edge is there) some))
     (all_parts P (at + 1) operators (λ j n input operator edge is there below some. f (suc j) n input operator edge (omega arith) there below some))
 
 all_polls : (P : Action → Type 0) (at : ℕ) (operators : List Operator)
-    → ((j n : ℕ) (operator : Operator) → n ≡ at + j → slice_get operators j ≡ Some operator → can_poll operator ≡ true → P (action.Poll n))
+    → ((j n : ℕ) (operator : Operator) → n ≡ at + j → slice_get operators j ≡ Some operator → is_pollable operator ≡ true → P (action.Poll n))
     → All P (polls_from at operators)
 unfolding polls_from
 all_polls P at [] f = All-nil P
 all_polls P at (first ∷ operators) f =
-    All-append P (if can_poll first then action.Poll at ∷ [] else []) (polls_from (at + 1) operators)
-    (all_if P (can_poll first) (action.Poll at ∷ []) (λ can. All-cons P (action.Poll at) [] (f 0 at first (omega arith) refl can) (All-nil P)))
+    All-append P (if is_pollable first then action.Poll at ∷ [] else []) (polls_from (at + 1) operators)
+    (all_if P (is_pollable first) (action.Poll at ∷ []) (λ can. All-cons P (action.Poll at) [] (f 0 at first (omega arith) refl can) (All-nil P)))
     (all_polls P (at + 1) operators (λ j n operator is there can. f (suc j) n operator (omega arith) there can))
 
 pub offered_enabled : (job : JobState) (k : ℕ) (action : Action) → slice_get (offer_of job) k ≡ Some action → IsEnabled job action
@@ -120,38 +120,38 @@ some_report at (suc j) (first ∷ operators) operator there some =
     longer_right (where_any first.reports (action.Hear at)) (reports_from (at + 1) operators) (some_report (at + 1) j operators operator there some)
 
 some_edge : (at input j : ℕ) (edges : List Edge) (edge : Edge) → slice_get edges j ≡ Some edge → 0 < length edge.parts
-    → 0 < length (edges_from at input edges)
-unfolding edges_from
+    → 0 < length (edge_parts_from at input edges)
+unfolding edge_parts_from
 some_edge at input j [] edge there some = cc
 some_edge at input zero (first ∷ edges) edge there some =
-    longer_left (where_any first.parts (action.Take at input)) (edges_from at (input + 1) edges)
+    longer_left (where_any first.parts (action.Take at input)) (edge_parts_from at (input + 1) edges)
     (some_where first.parts (action.Take at input) (subst (λ (e : Edge). 0 < length e.parts) (sym (same_Some first edge there)) some))
 some_edge at input (suc j) (first ∷ edges) edge there some =
-    longer_right (where_any first.parts (action.Take at input)) (edges_from at (input + 1) edges) (some_edge at (input + 1) j edges edge there some)
+    longer_right (where_any first.parts (action.Take at input)) (edge_parts_from at (input + 1) edges) (some_edge at (input + 1) j edges edge there some)
 
 some_part : (at j input : ℕ) (operators : List Operator) (operator : Operator) (edge : Edge) → slice_get operators j ≡ Some operator
     → slice_get operator.inputs input ≡ Some edge → 0 < length edge.parts → 0 < length (parts_from at operators)
 unfolding parts_from
 some_part at j input [] operator edge there below some = cc
 some_part at zero input (first ∷ operators) operator edge there below some =
-    longer_left (edges_from at 0 first.inputs) (parts_from (at + 1) operators)
+    longer_left (edge_parts_from at 0 first.inputs) (parts_from (at + 1) operators)
     (some_edge at 0 input first.inputs edge (subst (λ (o : Operator). slice_get o.inputs input ≡ Some edge) (sym (same_Some first operator there)) below) some)
 some_part at (suc j) input (first ∷ operators) operator edge there below some =
-    longer_right (edges_from at 0 first.inputs) (parts_from (at + 1) operators) (some_part (at + 1) j input operators operator edge there below some)
+    longer_right (edge_parts_from at 0 first.inputs) (parts_from (at + 1) operators) (some_part (at + 1) j input operators operator edge there below some)
 
-some_poll : (at j : ℕ) (operators : List Operator) (operator : Operator) → slice_get operators j ≡ Some operator → can_poll operator ≡ true
+some_poll : (at j : ℕ) (operators : List Operator) (operator : Operator) → slice_get operators j ≡ Some operator → is_pollable operator ≡ true
     → 0 < length (polls_from at operators)
 unfolding polls_from
 some_poll at j [] operator there can = cc
 some_poll at zero (first ∷ operators) operator there can =
-    longer_left (if can_poll first then action.Poll at ∷ [] else []) (polls_from (at + 1) operators)
-    (one_if (can_poll first) (ap can_poll (same_Some first operator there) ∙ can))
+    longer_left (if is_pollable first then action.Poll at ∷ [] else []) (polls_from (at + 1) operators)
+    (one_if (is_pollable first) (ap is_pollable (same_Some first operator there) ∙ can))
   where
     one_if : (test : Bool) → test ≡ true → 0 < length (if test then action.Poll at ∷ [] else [])
     one_if true is = omega arith
     one_if false is = cc
 some_poll at (suc j) (first ∷ operators) operator there can =
-    longer_right (if can_poll first then action.Poll at ∷ [] else []) (polls_from (at + 1) operators) (some_poll (at + 1) j operators operator there can)
+    longer_right (if is_pollable first then action.Poll at ∷ [] else []) (polls_from (at + 1) operators) (some_poll (at + 1) j operators operator there can)
 
 some_if : (test : Bool) (actions : List Action) → test ≡ true → 0 < length actions → 0 < length (if test then actions else [])
 some_if true actions is some = some
@@ -179,7 +179,7 @@ enabled_offered job (action.Poll at) can =
 -- ---- while the job runs something can be done
 
 -- the operator from which an edge leads stands before its target
-edge_below : (steps : List ThinStep) (parts : ℕ → Part) (at : ℕ) (operator : Operator) (input : ℕ) (edge : Edge) → IsFormedThin steps
+edge_below : (steps : List ThinStep) (parts : ℕ → MadePart) (at : ℕ) (operator : Operator) (input : ℕ) (edge : Edge) → IsFormedThin steps
     → HeldAt steps parts at operator → slice_get operator.inputs input ≡ Some edge → edge.from < at
 edge_below steps parts at operator input edge formed here there =
     edge_source (λ n. n < at) operator.inputs here.from here.held.wired
@@ -187,7 +187,7 @@ edge_below steps parts at operator input edge formed here there =
     (All-nil (λ n. n < 0)) at at here.from (omega arith) here.sourced) input edge there
 
 -- an edge of an operator that is not polled, where its source has made a bag: the bag is in its channel, or received
-made_arrives : (part : Part) (bag : BagOf) (polled : Bool) (parts : List BagOf) (received : Received) → part ≡ Made bag → EdgeHolds part polled parts received
+made_arrives : (part : MadePart) (bag : BagOf) (polled : Bool) (parts : List BagOf) (received : Received) → part ≡ Made bag → EdgeHolds part polled parts received
     → polled ≡ false → (0 < length parts) ⊎ ((other : BagOf) × (received ≡ Here other))
 made_arrives Unmade bag polled parts received is holds unpolled = cc
 made_arrives (AtFault kind) bag polled parts received is holds unpolled = cc
@@ -216,19 +216,19 @@ waits_or_here (first ∷ edges) each = by_first (each 0 first refl) (waits_or_he
     by_first (inr here) (inr all) = inr (rw (here.1, all))
 
 -- a report that was not heard is in its channel
-report_waits : (outcome : Outcome) (reports : List Outcome) (heard : Option Outcome) → Reports outcome reports heard → heard ≡ None → 0 < length reports
+report_waits : (outcome : Outcome) (reports : List Outcome) (heard : Option Outcome) → ReportsOutcome outcome reports heard → heard ≡ None → 0 < length reports
 report_waits outcome reports heard (inl waits) unheard = rw waits.0 (omega arith)
 report_waits outcome reports heard (inr was) unheard = cc
 
 -- an operator that is not heard: its report is in its channel, or it is not polled
-report_or_unpolled : (part : Part) (polled : Bool) (reports : List Outcome) (heard : Option Outcome) → ReportsPart part polled reports heard → heard ≡ None
+report_or_unpolled : (part : MadePart) (polled : Bool) (reports : List Outcome) (heard : Option Outcome) → ReportsPart part polled reports heard → heard ≡ None
     → (0 < length reports) ⊎ (polled ≡ false)
 report_or_unpolled Unmade polled reports heard r unheard = inr r.0
 report_or_unpolled (Made bag) polled reports heard r unheard = inl (report_waits outcome.Done reports heard r.1 unheard)
 report_or_unpolled (AtFault kind) polled reports heard r unheard = inl (report_waits (outcome.Fault kind) reports heard r.1 unheard)
 
 -- what stands before the first operator that is not heard has made its bag
-before_made : {steps : List ThinStep} {parts : ℕ → Part} {job : JobState} (at : ℕ) → Holds steps parts job → (first : FirstUnheard job.operators)
+before_made : {steps : List ThinStep} {parts : ℕ → MadePart} {job : JobState} (at : ℕ) → JobHolds steps parts job → (first : FirstUnheard job.operators)
     → at < first.place → parts at ≡ Made (bag_of (parts at))
 before_made {parts = parts} {job} at holds first before =
     let other = got_within job.operators at (omega (arith, slice_get_within job.operators first.place first.operator first.there)) in
@@ -236,8 +236,8 @@ before_made {parts = parts} {job} at holds first before =
     (done_made (parts at) other.0.polled other.0.reports other.0.heard told (first.earlier at other.0 before other.1)).0
 
 -- the first operator that is not heard can do something, where the path is learned
-first_can : {steps : List ThinStep} {parts : ℕ → Part} {job : JobState} → IsFormedThin steps → job.learned ≡ true
-    → Holds steps parts job → FirstUnheard job.operators → (action : Action) × IsEnabled job action
+first_can : {steps : List ThinStep} {parts : ℕ → MadePart} {job : JobState} → IsFormedThin steps → job.learned ≡ true
+    → JobHolds steps parts job → FirstUnheard job.operators → (action : Action) × IsEnabled job action
 first_can {steps} {parts} {job} formed known holds first =
     let here = held_at holds first.place first.operator first.there in
     by_report here (report_or_unpolled (parts first.place) first.operator.polled first.operator.reports first.operator.heard here.held.reports first.unheard)
@@ -263,7 +263,7 @@ first_can {steps} {parts} {job} formed known holds first =
         made_arrives (parts edge.from) (bag_of (parts edge.from)) first.operator.polled edge.parts edge.received made (here.held.edges input edge there) unpolled))
 
 -- while the job runs something can be done: the path's message, or of the first operator that is not heard its report, one of its parts, or its poll
-something_enabled : {steps : List ThinStep} {shelf : Kept} {job : JobState} → IsFormedThin steps → Stands steps shelf job → verdict_of job ≡ verdict.Running
+something_enabled : {steps : List ThinStep} {shelf : Kept} {job : JobState} → IsFormedThin steps → JobStands steps shelf job → verdict_of job ≡ verdict.Running
     → (action : Action) × IsEnabled job action
 something_enabled {job = job} formed stands runs = by_path stands.holds.begun
   where
@@ -271,6 +271,6 @@ something_enabled {job = job} formed stands runs = by_path stands.holds.begun
     by_path (inl waits) = (action.Learn, rw waits.1 (omega arith))
     by_path (inr known) = first_can formed known.0 stands.holds (first_unheard 0 job.operators runs)
 
-pub something_offered : {steps : List ThinStep} {shelf : Kept} {job : JobState} → IsFormedThin steps → Stands steps shelf job → verdict_of job ≡ verdict.Running
+pub something_offered : {steps : List ThinStep} {shelf : Kept} {job : JobState} → IsFormedThin steps → JobStands steps shelf job → verdict_of job ≡ verdict.Running
     → 0 < length (offer_of job)
 something_offered {job = job} formed stands runs = let some = something_enabled formed stands runs in enabled_offered job some.0 some.1

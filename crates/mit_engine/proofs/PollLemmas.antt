@@ -11,8 +11,8 @@ use Rattle.mit_rows.specs.Bags.{BagOf}
 use Rattle.mit_world.specs.Files.{FileMap}
 use Rattle.mit_shelf.specs.Shelf.{Agrees, Kept}
 use Rattle.mit_engine.specs.Thin.{FormedFrom, IsFormedThin, edges_of}
-use Rattle.mit_engine.specs.Operators.{IsReady, JobState, actions_left, after_poll, assigned_after, bag_received, bags_here, can_poll, edge_left, fed_of, feeds, is_here, is_received, left_of, operator_left, passed_on, polls, sends, sends_all, sources, whole, with_operators}
-use Rattle.mit_engine.specs.Running.{AtFault, EdgeHolds, Goes, Holds, Made, MadeOf, Means, OperatorCan, OperatorHolds, Part, PathHolds, ReportsPart, StagesPart, Stands, Unmade, bags_made, with_bag}
+use Rattle.mit_engine.specs.Operators.{IsPollReady, JobState, actions_left, after_poll, assigned_after, bag_received, bags_here, due_bag, edge_left, fed_of, feeds_bag, is_here, is_pollable, is_received, left_of, operator_left, passed_on, polls, sends, sends_all, sources, with_operators}
+use Rattle.mit_engine.specs.Running.{AtFault, EdgeHolds, Goes, JobHolds, JobStands, Made, MadeOf, MadePart, Means, OperatorCan, OperatorHolds, PathHolds, ReportsPart, StagesPart, Unmade, bags_made, with_made_bag}
 use Rattle.mit_ops.specs.declared.faults.FaultKind.{FaultKind}
 use Rattle.mit_engine.specs.declared.edges.Edge.{Edge}
 use Rattle.mit_engine.specs.declared.edges.Received.{Received}
@@ -30,25 +30,25 @@ use Rattle.mit_engine.proofs.SourceLemmas.{Assigns, length-sources_at, sources_a
 -- ---- the operator before it
 
 -- these edges have each received the bag that its source has made
-record AreHere (parts : ℕ → Part) (inputs : List Edge) : Type 0 where
+record AreHere (parts : ℕ → MadePart) (inputs : List Edge) : Type 0 where
   each : (input : ℕ) (edge : Edge) → slice_get inputs input ≡ Some edge
       → (bag : BagOf) × (parts edge.from ≡ Made bag) × (edge.parts ≡ []) × (edge.received ≡ Here bag)
 
 -- an operator that can be polled
-record IsWaiting (parts : ℕ → Part) (at : ℕ) (operator : Operator) : Type 0 where
+record IsWaiting (parts : ℕ → MadePart) (at : ℕ) (operator : Operator) : Type 0 where
   unmade : parts at ≡ Unmade
   unpolled : operator.polled ≡ false
   silent : operator.reports ≡ []
   unheard : operator.heard ≡ None
   inputs : AreHere parts operator.inputs
 
-ReportsPart_unpolled : (part : Part) (polled : Bool) (reports : List Outcome) (heard : Option Outcome) → polled ≡ false → ReportsPart part polled reports heard
+ReportsPart_unpolled : (part : MadePart) (polled : Bool) (reports : List Outcome) (heard : Option Outcome) → polled ≡ false → ReportsPart part polled reports heard
     → (part ≡ Unmade) × (reports ≡ []) × (heard ≡ None)
 ReportsPart_unpolled Unmade polled reports heard not_yet is = (refl, is.1, is.2)
 ReportsPart_unpolled (Made bag) polled reports heard not_yet is = absurd cc
 ReportsPart_unpolled (AtFault kind) polled reports heard not_yet is = absurd cc
 
-EdgeHolds_here : (part : Part) (polled : Bool) (parts : List BagOf) (received : Received) → is_received received ≡ true → EdgeHolds part polled parts received
+EdgeHolds_here : (part : MadePart) (polled : Bool) (parts : List BagOf) (received : Received) → is_received received ≡ true → EdgeHolds part polled parts received
     → (bag : BagOf) × (part ≡ Made bag) × (parts ≡ []) × (received ≡ Here bag)
 EdgeHolds_here Unmade polled parts received here is = absurd (cc (ap is_received is.2))
 EdgeHolds_here (AtFault kind) polled parts received here is = absurd (cc (ap is_received is.2))
@@ -57,7 +57,7 @@ EdgeHolds_here (Made bag) polled parts received here is = elim is [
   | inr e ↦ elim e [ inl f ↦ (bag, refl, f.1, f.2) | inr f ↦ absurd (cc (ap is_received f.2)) ]
 ]
 
-waits : {statement : ThinStep} {from : List ℕ} {parts : ℕ → Part} {at : ℕ} {operator : Operator} → can_poll operator ≡ true
+waits : {statement : ThinStep} {from : List ℕ} {parts : ℕ → MadePart} {at : ℕ} {operator : Operator} → is_pollable operator ≡ true
     → OperatorHolds statement from parts at operator → IsWaiting parts at operator
 waits {parts = parts} {at} {operator} can holds =
     let both = and_parts (not operator.polled) (list_all is_here operator.inputs) can in
@@ -76,29 +76,29 @@ waits {parts = parts} {at} {operator} can holds =
     }
 
 -- the sources of a waiting operator have made their bags, so none is the operator itself
-source_apart : {parts : ℕ → Part} {at : ℕ} {operator : Operator} → IsWaiting parts at operator
+source_apart : {parts : ℕ → MadePart} {at : ℕ} {operator : Operator} → IsWaiting parts at operator
     → (input : ℕ) (edge : Edge) → slice_get operator.inputs input ≡ Some edge → ¬ (edge.from ≡ at)
 source_apart waiting input edge is same = let here = waiting.inputs.each input edge is in absurd (cc (here.1, waiting.unmade))
 
 -- the bags that its sources have made are those that it received
-bags_made_here : (parts : ℕ → Part) (inputs : List Edge) → AreHere parts inputs → bags_made parts (sources_in inputs) ≡ Some (bags_here inputs)
+bags_made_here : (parts : ℕ → MadePart) (inputs : List Edge) → AreHere parts inputs → bags_made parts (sources_in inputs) ≡ Some (bags_here inputs)
 unfolding bags_here
 bags_made_here parts [] here = refl
 bags_made_here parts (edge ∷ inputs) here =
     let first = here.each zero edge refl in
     let rest : AreHere parts inputs = record { each = λ input other is. here.each (suc input) other is } in
-    ap (λ part. with_bag part (bags_made parts (sources_in inputs))) first.1
-    ∙ ap (with_bag (Made first.0)) (bags_made_here parts inputs rest)
+    ap (λ part. with_made_bag part (bags_made parts (sources_in inputs))) first.1
+    ∙ ap (with_made_bag (Made first.0)) (bags_made_here parts inputs rest)
     ∙ ap (λ (r : Received). Some (bag_received r ++ bags_here inputs)) (sym first.3)
 
-with_bag_some : (part : Part) (others : Option (List BagOf)) (bags : List BagOf) → with_bag part others ≡ Some bags
+with_bag_some : (part : MadePart) (others : Option (List BagOf)) (bags : List BagOf) → with_made_bag part others ≡ Some bags
     → (bag : BagOf) × (later : List BagOf) × (part ≡ Made bag) × (others ≡ Some later) × (bags ≡ bag ∷ later)
 with_bag_some Unmade others bags is = cc
 with_bag_some (AtFault kind) others bags is = cc
 with_bag_some (Made bag) None bags is = cc
 with_bag_some (Made bag) (Some later) bags is = (bag, later, refl, refl, cc)
 
-length-bags_made : (parts : ℕ → Part) (from : List ℕ) (bags : List BagOf) → bags_made parts from ≡ Some bags → length bags ≡ length from
+length-bags_made : (parts : ℕ → MadePart) (from : List ℕ) (bags : List BagOf) → bags_made parts from ≡ Some bags → length bags ≡ length from
 length-bags_made parts [] bags is = let none : bags ≡ [] = cc in ap length none
 length-bags_made parts (source ∷ from) bags is =
     let all = with_bag_some (parts source) (bags_made parts from) bags is in
@@ -106,21 +106,21 @@ length-bags_made parts (source ∷ from) bags is =
 
 -- ---- what it makes
 
-abbrev part_of : Result BagOf FaultKind → Part
+abbrev part_of : Result BagOf FaultKind → MadePart
 part_of (Ok bag) = Made bag
 part_of (Err kind) = AtFault kind
 
 -- the parts with this one made
-abbrev parts_with : (ℕ → Part) → ℕ → Part → ℕ → Part
+abbrev parts_with : (ℕ → MadePart) → ℕ → MadePart → ℕ → MadePart
 parts_with parts at part k = if k == at then part else parts k
 
 -- one operator more has made its part
-record OneMore (parts new : ℕ → Part) (at : ℕ) (part : Part) : Type 0 where
+record OneMore (parts new : ℕ → MadePart) (at : ℕ) (part : MadePart) : Type 0 where
   unmade : parts at ≡ Unmade
   made : new at ≡ part
   others : (k : ℕ) → ¬ (k ≡ at) → new k ≡ parts k
 
-one_more : (parts : ℕ → Part) (at : ℕ) (part : Part) → parts at ≡ Unmade → OneMore parts (parts_with parts at part) at part
+one_more : (parts : ℕ → MadePart) (at : ℕ) (part : MadePart) → parts at ≡ Unmade → OneMore parts (parts_with parts at part) at part
 one_more parts at part unmade = record {
   unmade = unmade;
   made = ap (λ b. if b then part else parts at) (eq-eqb at at refl);
@@ -128,16 +128,16 @@ one_more parts at part unmade = record {
 }
 
 -- sources that have all made their bags keep them
-bags_made_kept : {parts new : ℕ → Part} {at : ℕ} {part : Part} → OneMore parts new at part → (from : List ℕ) (bags : List BagOf)
+bags_made_kept : {parts new : ℕ → MadePart} {at : ℕ} {part : MadePart} → OneMore parts new at part → (from : List ℕ) (bags : List BagOf)
     → bags_made parts from ≡ Some bags → bags_made new from ≡ Some bags
 bags_made_kept more [] bags is = is
 bags_made_kept {parts} {new} {at} more (source ∷ from) bags is =
     let all = with_bag_some (parts source) (bags_made parts from) bags is in
     let other : ¬ (source ≡ at) = λ e. absurd (cc (all.2, more.unmade)) in
-    ap (λ part. with_bag part (bags_made new from)) (more.others source other)
-    ∙ ap (with_bag (parts source)) (bags_made_kept more from all.1 all.3 ∙ sym all.3) ∙ is
+    ap (λ part. with_made_bag part (bags_made new from)) (more.others source other)
+    ∙ ap (with_made_bag (parts source)) (bags_made_kept more from all.1 all.3 ∙ sym all.3) ∙ is
 
-MadeOf_kept : (files : FileMap) (statement : ThinStep) (old new : Option (List BagOf)) (part : Part) → ((bags : List BagOf) → old ≡ Some bags → new ≡ Some bags)
+MadeOf_kept : (files : FileMap) (statement : ThinStep) (old new : Option (List BagOf)) (part : MadePart) → ((bags : List BagOf) → old ≡ Some bags → new ≡ Some bags)
     → MadeOf files statement old part → MadeOf files statement new part
 MadeOf_kept files statement old new Unmade same is = tt
 MadeOf_kept files statement None new (Made bag) same is = absurd is
@@ -147,28 +147,28 @@ MadeOf_kept files statement (Some bags) new (Made bag) same is =
 MadeOf_kept files statement (Some bags) new (AtFault kind) same is =
     let P : Option (List BagOf) → Type 0 = λ o. MadeOf files statement o (AtFault kind) in subst P (sym (same bags refl)) is
 
-MadeOf_made : (files : FileMap) (statement : ThinStep) (bags : List BagOf) (made : Result BagOf FaultKind) → whole files statement bags ≡ made
+MadeOf_made : (files : FileMap) (statement : ThinStep) (bags : List BagOf) (made : Result BagOf FaultKind) → due_bag files statement bags ≡ made
     → MadeOf files statement (Some bags) (part_of made)
 MadeOf_made files statement bags (Ok bag) is = is
 MadeOf_made files statement bags (Err kind) is = is
 
 -- its part means what its statement makes of the bags that it received
-made_means : {parts new : ℕ → Part} {at : ℕ} {operator : Operator} (files : FileMap) (statement : ThinStep) (from : List ℕ) (made : Result BagOf FaultKind)
+made_means : {parts new : ℕ → MadePart} {at : ℕ} {operator : Operator} (files : FileMap) (statement : ThinStep) (from : List ℕ) (made : Result BagOf FaultKind)
     → OneMore parts new at (part_of made) → IsWaiting parts at operator → sources_in operator.inputs ≡ from
-    → whole files statement (bags_here operator.inputs) ≡ made → MadeOf files statement (bags_made new from) (new at)
+    → due_bag files statement (bags_here operator.inputs) ≡ made → MadeOf files statement (bags_made new from) (new at)
 made_means {parts} {new} {at} {operator} files statement from made more waiting wired makes =
     let bags = bags_here operator.inputs in
     let all = bags_made_kept more from bags (ap (bags_made parts) (sym wired) ∙ bags_made_here parts operator.inputs waiting.inputs) in
     let P : Option (List BagOf) → Type 0 = λ o. MadeOf files statement o (new at) in
-    let Q : Part → Type 0 = λ p. MadeOf files statement (Some bags) p in
+    let Q : MadePart → Type 0 = λ p. MadeOf files statement (Some bags) p in
     subst P (sym all) (subst Q (sym more.made) (MadeOf_made files statement bags made makes))
 
-poll_means : {steps : List ThinStep} {parts : ℕ → Part} {job : JobState} {at : ℕ} {operator : Operator}
+poll_means : {steps : List ThinStep} {parts : ℕ → MadePart} {job : JobState} {at : ℕ} {operator : Operator}
     (files : FileMap) (statement : ThinStep) (made : Result BagOf FaultKind) → slice_get job.operators at ≡ Some operator → slice_get steps at ≡ Some statement
-    → IsWaiting parts at operator → Holds steps parts job → whole files statement (bags_here operator.inputs) ≡ made
+    → IsWaiting parts at operator → JobHolds steps parts job → due_bag files statement (bags_here operator.inputs) ≡ made
     → Means files steps parts → Means files steps (parts_with parts at (part_of made))
 poll_means {steps} {parts} {at = at} {operator} files statement made is does waiting holds makes means k again from does' leads =
-    let new : ℕ → Part = parts_with parts at (part_of made) in
+    let new : ℕ → MadePart = parts_with parts at (part_of made) in
     let more = one_more parts at (part_of made) waiting.unmade in
     elim (cases_eq k at) [
       | inl e ↦
@@ -178,7 +178,7 @@ poll_means {steps} {parts} {at = at} {operator} files statement made is does wai
           let Q : ThinStep → Type 0 = λ s. MadeOf files s (bags_made new from) (new at) in
           subst P (sym e) (subst Q same (made_means files statement from made more waiting wired makes))
       | inr e ↦
-          let P : Part → Type 0 = λ p. MadeOf files again (bags_made new from) p in
+          let P : MadePart → Type 0 = λ p. MadeOf files again (bags_made new from) p in
           let before = means k again from does' leads in
           subst P (sym (more.others k e)) (MadeOf_kept files again (bags_made parts from) (bags_made new from) (parts k) (bags_made_kept more from) before)
     ]
@@ -186,37 +186,37 @@ poll_means {steps} {parts} {at = at} {operator} files statement made is does wai
 -- ---- the operator after it
 
 -- it has reported, and its inputs are fed
-polled_holds : {parts new : ℕ → Part} {at : ℕ} {part : Part} {operator : Operator} (statement : ThinStep) (from : List ℕ) (outcome : Outcome) (staged : Option BagOf)
+polled_holds : {parts new : ℕ → MadePart} {at : ℕ} {part : MadePart} {operator : Operator} (statement : ThinStep) (from : List ℕ) (outcome : Outcome) (staged : Option BagOf)
     → OneMore parts new at part → IsWaiting parts at operator → sources_in operator.inputs ≡ from
     → ReportsPart part true (outcome ∷ []) None → StagesPart statement part staged
     → OperatorHolds statement from new at (record (polls outcome operator) { staged = staged })
 polled_holds {parts} {new} {at} {part} {operator} statement from outcome staged more waiting wired reports stages = record {
-  wired = map-map (λ (edge : Edge). edge.from) feeds operator.inputs ∙ wired;
+  wired = map-map (λ (edge : Edge). edge.from) feeds_bag operator.inputs ∙ wired;
   reports =
-      let P : Part → Type 0 = λ p. ReportsPart p true (operator.reports ++ outcome ∷ []) operator.heard in
+      let P : MadePart → Type 0 = λ p. ReportsPart p true (operator.reports ++ outcome ∷ []) operator.heard in
       let Q : List Outcome → Type 0 = λ old. ReportsPart part true (old ++ outcome ∷ []) operator.heard in
       let R : Option Outcome → Type 0 = λ heard. ReportsPart part true (outcome ∷ []) heard in
       subst P (sym more.made) (subst Q (sym waiting.silent) (subst R (sym waiting.unheard) reports));
   edges = λ input edge is.
-      let old = got_map feeds operator.inputs input edge is in
+      let old = got_map feeds_bag operator.inputs input edge is in
       let here = waiting.inputs.each input old.0 old.1 in
       let same : new old.0.from ≡ Made here.0 = more.others old.0.from (source_apart waiting input old.0 old.1) ∙ here.1 in
       let P : Edge → Type 0 = λ e. EdgeHolds (new e.from) true e.parts e.received in
-      let Q : Part → Type 0 = λ p. EdgeHolds p true old.0.parts (fed_of old.0.received) in
+      let Q : MadePart → Type 0 = λ p. EdgeHolds p true old.0.parts (fed_of old.0.received) in
       subst P (sym old.2) (subst Q (sym same) (inr (inr (refl, here.2, ap fed_of here.3))));
-  staged = let P : Part → Type 0 = λ p. StagesPart statement p staged in subst P (sym more.made) stages;
+  staged = let P : MadePart → Type 0 = λ p. StagesPart statement p staged in subst P (sym more.made) stages;
 }
 
 -- ---- the other operators after it
 
 -- an operator that was not polled, with its edges as the poll leaves them
-other_holds : {statement : ThinStep} {from : List ℕ} {parts : ℕ → Part} {at : ℕ} {operator : Operator} (new : ℕ → Part) (inputs : List Edge)
+other_holds : {statement : ThinStep} {from : List ℕ} {parts : ℕ → MadePart} {at : ℕ} {operator : Operator} (new : ℕ → MadePart) (inputs : List Edge)
     → new at ≡ parts at → sources_in inputs ≡ sources_in operator.inputs
     → ((input : ℕ) (edge : Edge) → slice_get inputs input ≡ Some edge → EdgeHolds (new edge.from) operator.polled edge.parts edge.received)
     → OperatorHolds statement from parts at operator → OperatorHolds statement from new at (record operator { inputs = inputs })
 other_holds {statement} {operator = operator} new inputs same wired edges holds =
-    let P : Part → Type 0 = λ p. ReportsPart p operator.polled operator.reports operator.heard in
-    let Q : Part → Type 0 = λ p. StagesPart statement p operator.staged in
+    let P : MadePart → Type 0 = λ p. ReportsPart p operator.polled operator.reports operator.heard in
+    let Q : MadePart → Type 0 = λ p. StagesPart statement p operator.staged in
     record { wired = wired ∙ holds.wired; reports = subst P (sym same) holds.reports; edges = edges; staged = subst Q (sym same) holds.staged }
 
 sends_along : (at : ℕ) (bag : BagOf) (edge : Edge) → edge.from ≡ at → sends at bag edge ≡ record edge { parts = edge.parts ++ bag ∷ [] }
@@ -230,25 +230,25 @@ from-sends at bag edge =
     cond_both (edge.from == at) (record edge { parts = edge.parts ++ bag ∷ [] }) edge (λ e. e.from ≡ edge.from) (λ _. refl) (λ _. refl)
 
 -- an edge from an operator that has made nothing
-EdgeHolds_unmade : (part : Part) (polled : Bool) (parts : List BagOf) (received : Received) → part ≡ Unmade → EdgeHolds part polled parts received
+EdgeHolds_unmade : (part : MadePart) (polled : Bool) (parts : List BagOf) (received : Received) → part ≡ Unmade → EdgeHolds part polled parts received
     → (polled ≡ false) × (parts ≡ []) × (received ≡ Awaited)
 EdgeHolds_unmade Unmade polled parts received same is = is
 EdgeHolds_unmade (Made bag) polled parts received same is = cc
 EdgeHolds_unmade (AtFault kind) polled parts received same is = cc
 
 -- an edge from another operator than the polled one
-EdgeHolds_other : {parts new : ℕ → Part} {at : ℕ} {part : Part} → OneMore parts new at part → (polled : Bool) (edge : Edge) → ¬ (edge.from ≡ at)
+EdgeHolds_other : {parts new : ℕ → MadePart} {at : ℕ} {part : MadePart} → OneMore parts new at part → (polled : Bool) (edge : Edge) → ¬ (edge.from ≡ at)
     → EdgeHolds (parts edge.from) polled edge.parts edge.received → EdgeHolds (new edge.from) polled edge.parts edge.received
 EdgeHolds_other more polled edge other is =
-    let P : Part → Type 0 = λ p. EdgeHolds p polled edge.parts edge.received in subst P (sym (more.others edge.from other)) is
+    let P : MadePart → Type 0 = λ p. EdgeHolds p polled edge.parts edge.received in subst P (sym (more.others edge.from other)) is
 
 -- any edge, after the bag was sent, or after a fault
-EdgeHolds_sent : {parts new : ℕ → Part} {at : ℕ} {bag : BagOf} → OneMore parts new at (Made bag) → (polled : Bool) (edge : Edge)
+EdgeHolds_sent : {parts new : ℕ → MadePart} {at : ℕ} {bag : BagOf} → OneMore parts new at (Made bag) → (polled : Bool) (edge : Edge)
     → EdgeHolds (parts edge.from) polled edge.parts edge.received
     → EdgeHolds (new (sends at bag edge).from) polled (sends at bag edge).parts (sends at bag edge).received
 EdgeHolds_sent {parts} {new} {at} {bag} more polled edge is =
     let P : Edge → Type 0 = λ e. EdgeHolds (new e.from) polled e.parts e.received in
-    let Q : Part → Type 0 = λ p. EdgeHolds p polled (edge.parts ++ bag ∷ []) edge.received in
+    let Q : MadePart → Type 0 = λ p. EdgeHolds p polled (edge.parts ++ bag ∷ []) edge.received in
     elim (cases_eq edge.from at) [
       | inl e ↦
           let none = EdgeHolds_unmade (parts edge.from) polled edge.parts edge.received (ap parts e ∙ more.unmade) is in
@@ -257,10 +257,10 @@ EdgeHolds_sent {parts} {new} {at} {bag} more polled edge is =
       | inr e ↦ subst P (sym (sends_past at bag edge e)) (EdgeHolds_other more polled edge e is)
     ]
 
-EdgeHolds_failed : {parts new : ℕ → Part} {at : ℕ} {kind : FaultKind} → OneMore parts new at (AtFault kind) → (polled : Bool) (edge : Edge)
+EdgeHolds_failed : {parts new : ℕ → MadePart} {at : ℕ} {kind : FaultKind} → OneMore parts new at (AtFault kind) → (polled : Bool) (edge : Edge)
     → EdgeHolds (parts edge.from) polled edge.parts edge.received → EdgeHolds (new edge.from) polled edge.parts edge.received
 EdgeHolds_failed {parts} {new} {at} more polled edge is =
-    let P : Part → Type 0 = λ p. EdgeHolds p polled edge.parts edge.received in
+    let P : MadePart → Type 0 = λ p. EdgeHolds p polled edge.parts edge.received in
     elim (cases_eq edge.from at) [
       | inl e ↦ subst P (sym (ap new e ∙ more.made)) (EdgeHolds_unmade (parts edge.from) polled edge.parts edge.received (ap parts e ∙ more.unmade) is)
       | inr e ↦ EdgeHolds_other more polled edge e is
@@ -280,27 +280,27 @@ After-map operators at own other same = record {
       ];
 }
 
-PathHolds_known : {parts new : ℕ → Part} {path : List ℕ} {learned : Bool} → learned ≡ true → PathHolds parts path learned → PathHolds new path learned
+PathHolds_known : {parts new : ℕ → MadePart} {path : List ℕ} {learned : Bool} → learned ≡ true → PathHolds parts path learned → PathHolds new path learned
 PathHolds_known known begun = elim begun [ inl e ↦ absurd cc | inr e ↦ inr e ]
 
 -- ---- a poll that sends its bag
 
 -- no edge leads from the polled operator to itself
-sends_own : {parts : ℕ → Part} {at : ℕ} {operator : Operator} (bag : BagOf) → IsWaiting parts at operator
-    → (input : ℕ) (edge : Edge) → slice_get (map feeds operator.inputs) input ≡ Some edge → sends at bag edge ≡ edge
+sends_own : {parts : ℕ → MadePart} {at : ℕ} {operator : Operator} (bag : BagOf) → IsWaiting parts at operator
+    → (input : ℕ) (edge : Edge) → slice_get (map feeds_bag operator.inputs) input ≡ Some edge → sends at bag edge ≡ edge
 sends_own {at = at} {operator} bag waiting input edge is =
-    let old = got_map feeds operator.inputs input edge is in
+    let old = got_map feeds_bag operator.inputs input edge is in
     let from : edge.from ≡ old.0.from = ap (λ (e : Edge). e.from) old.2 in
     sends_past at bag edge (λ same. source_apart waiting input old.0 old.1 (sym from ∙ same))
 
-sends_all_own : {parts : ℕ → Part} {at : ℕ} {operator : Operator} (bag : BagOf) → IsWaiting parts at operator
+sends_all_own : {parts : ℕ → MadePart} {at : ℕ} {operator : Operator} (bag : BagOf) → IsWaiting parts at operator
     → sends_all at bag (polls outcome.Done operator) ≡ polls outcome.Done operator
 sends_all_own {at = at} {operator} bag waiting =
-    let same : map (sends at bag) (map feeds operator.inputs) ≡ map feeds operator.inputs =
-    map_fixed (sends at bag) (map feeds operator.inputs) (All-from_got _ (map feeds operator.inputs) (sends_own bag waiting)) in
+    let same : map (sends at bag) (map feeds_bag operator.inputs) ≡ map feeds_bag operator.inputs =
+    map_fixed (sends at bag) (map feeds_bag operator.inputs) (All-from_got _ (map feeds_bag operator.inputs) (sends_own bag waiting)) in
     ap (λ (inputs : List Edge). record (polls outcome.Done operator) { inputs = inputs }) same
 
-sends_all_other : {statement : ThinStep} {from : List ℕ} {parts new : ℕ → Part} {at k : ℕ} {bag : BagOf} {operator : Operator} → OneMore parts new at (Made bag)
+sends_all_other : {statement : ThinStep} {from : List ℕ} {parts new : ℕ → MadePart} {at k : ℕ} {bag : BagOf} {operator : Operator} → OneMore parts new at (Made bag)
     → ¬ (k ≡ at) → OperatorHolds statement from parts k operator → OperatorHolds statement from new k (sends_all at bag operator)
 sends_all_other {new = new} {at} {k} {bag} {operator} more apart holds =
     let P : Edge → Type 0 = λ e. EdgeHolds (new e.from) operator.polled e.parts e.received in
@@ -311,10 +311,10 @@ sends_all_other {new = new} {at} {k} {bag} {operator} more apart holds =
     other_holds new (map (sends at bag) operator.inputs) (more.others k apart)
     (map-map_kept (λ edge. edge.from) (sends at bag) operator.inputs (from-sends at bag)) edges holds
 
-sent_holds : {steps : List ThinStep} {parts : ℕ → Part} {job : JobState} {at : ℕ} {operator : Operator}
+sent_holds : {steps : List ThinStep} {parts : ℕ → MadePart} {job : JobState} {at : ℕ} {operator : Operator}
     (statement : ThinStep) (bag : BagOf) → job.learned ≡ true → slice_get job.operators at ≡ Some operator → slice_get steps at ≡ Some statement
-    → IsWaiting parts at operator → StagesPart statement (Made bag) operator.staged → Holds steps parts job
-    → Holds steps (parts_with parts at (Made bag)) (with_operators job (map (sends_all at bag) (slice_set job.operators at (polls outcome.Done operator))))
+    → IsWaiting parts at operator → StagesPart statement (Made bag) operator.staged → JobHolds steps parts job
+    → JobHolds steps (parts_with parts at (Made bag)) (with_operators job (map (sends_all at bag) (slice_set job.operators at (polls outcome.Done operator))))
 sent_holds {parts = parts} {job} {at} {operator} statement bag known is does waiting stages holds =
     let own : Operator = polls outcome.Done operator in
     let more = one_more parts at (Made bag) waiting.unmade in
@@ -330,16 +330,16 @@ StagesPart_failed (step.Read target name count) kind staged = tt
 StagesPart_failed (step.Union target left right) kind staged = tt
 StagesPart_failed (step.Write source name) kind staged = tt
 
-failed_other : {statement : ThinStep} {from : List ℕ} {parts new : ℕ → Part} {at k : ℕ} {kind : FaultKind} {operator : Operator} → OneMore parts new at (AtFault kind)
+failed_other : {statement : ThinStep} {from : List ℕ} {parts new : ℕ → MadePart} {at k : ℕ} {kind : FaultKind} {operator : Operator} → OneMore parts new at (AtFault kind)
     → ¬ (k ≡ at) → OperatorHolds statement from parts k operator → OperatorHolds statement from new k operator
 failed_other {new = new} {k = k} {operator = operator} more apart holds =
     other_holds new operator.inputs (more.others k apart) refl
     (λ input edge is. EdgeHolds_failed more operator.polled edge (holds.edges input edge is)) holds
 
-failed_holds : {steps : List ThinStep} {parts : ℕ → Part} {job : JobState} {at : ℕ} {operator : Operator}
+failed_holds : {steps : List ThinStep} {parts : ℕ → MadePart} {job : JobState} {at : ℕ} {operator : Operator}
     (statement : ThinStep) (kind : FaultKind) → job.learned ≡ true → slice_get job.operators at ≡ Some operator → slice_get steps at ≡ Some statement
-    → IsWaiting parts at operator → Holds steps parts job
-    → Holds steps (parts_with parts at (AtFault kind)) (with_operators job (slice_set job.operators at (polls (outcome.Fault kind) operator)))
+    → IsWaiting parts at operator → JobHolds steps parts job
+    → JobHolds steps (parts_with parts at (AtFault kind)) (with_operators job (slice_set job.operators at (polls (outcome.Fault kind) operator)))
 failed_holds {parts = parts} {job} {at} {operator} statement kind known is does waiting holds =
     let more = one_more parts at (AtFault kind) waiting.unmade in
     let stages = StagesPart_failed statement kind operator.staged in
@@ -362,17 +362,17 @@ leads_past_write steps at source name formed does k from leads inputs wired =
     edge_source (λ n. ¬ (n ≡ at)) inputs from wired
     (sources_all (λ k n. ¬ (n ≡ at)) [] 0 steps (formed_first steps formed) (λ k n apart. apart) own (All-nil (λ n. ¬ (n ≡ at))) k k from (omega arith) leads)
 
-staged_other : {statement : ThinStep} {from : List ℕ} {parts new : ℕ → Part} {at k : ℕ} {part : Part} {operator : Operator} → OneMore parts new at part
+staged_other : {statement : ThinStep} {from : List ℕ} {parts new : ℕ → MadePart} {at k : ℕ} {part : MadePart} {operator : Operator} → OneMore parts new at part
     → ¬ (k ≡ at) → ((input : ℕ) (edge : Edge) → slice_get operator.inputs input ≡ Some edge → ¬ (edge.from ≡ at))
     → OperatorHolds statement from parts k operator → OperatorHolds statement from new k operator
 staged_other {new = new} {k = k} {operator = operator} more apart past holds =
     other_holds new operator.inputs (more.others k apart) refl
     (λ input edge is. EdgeHolds_other more operator.polled edge (past input edge is) (holds.edges input edge is)) holds
 
-staged_holds : {steps : List ThinStep} {parts : ℕ → Part} {job : JobState} {at : ℕ} {operator : Operator}
+staged_holds : {steps : List ThinStep} {parts : ℕ → MadePart} {job : JobState} {at : ℕ} {operator : Operator}
     (source : ℕ) (name : List ℕ) (bag : BagOf) → IsFormedThin steps → job.learned ≡ true → slice_get job.operators at ≡ Some operator → slice_get steps at ≡ Some (step.Write source name)
-    → IsWaiting parts at operator → Holds steps parts job
-    → Holds steps (parts_with parts at (Made bag)) (with_operators job (slice_set job.operators at (record (polls outcome.Done operator) { staged = Some bag })))
+    → IsWaiting parts at operator → JobHolds steps parts job
+    → JobHolds steps (parts_with parts at (Made bag)) (with_operators job (slice_set job.operators at (record (polls outcome.Done operator) { staged = Some bag })))
 staged_holds {steps} {parts} {job} {at} {operator} source name bag formed known is does waiting holds =
     let write : ThinStep = step.Write source name in
     let more = one_more parts at (Made bag) waiting.unmade in
@@ -383,17 +383,17 @@ staged_holds {steps} {parts} {job} {at} {operator} source name bag formed known 
 
 -- ---- any poll
 
-poll_holds : {steps : List ThinStep} {parts : ℕ → Part} {job : JobState} {at : ℕ} {operator : Operator}
+poll_holds : {steps : List ThinStep} {parts : ℕ → MadePart} {job : JobState} {at : ℕ} {operator : Operator}
     (statement : ThinStep) (made : Result BagOf FaultKind) → IsFormedThin steps → job.learned ≡ true → slice_get job.operators at ≡ Some operator
-    → slice_get steps at ≡ Some statement → IsWaiting parts at operator → Holds steps parts job
-    → Holds steps (parts_with parts at (part_of made)) (with_operators job (after_poll statement at operator made job.operators))
+    → slice_get steps at ≡ Some statement → IsWaiting parts at operator → JobHolds steps parts job
+    → JobHolds steps (parts_with parts at (part_of made)) (with_operators job (after_poll statement at operator made job.operators))
 unfolding after_poll passed_on
 poll_holds statement (Err kind) formed known is does waiting holds = failed_holds statement kind known is does waiting holds
 poll_holds (step.Read target name count) (Ok bag) formed known is does waiting holds = sent_holds (step.Read target name count) bag known is does waiting tt holds
 poll_holds (step.Union target left right) (Ok bag) formed known is does waiting holds = sent_holds (step.Union target left right) bag known is does waiting tt holds
 poll_holds {steps} {parts} {job} {at} {operator} (step.Write source name) (Ok bag) formed known is does waiting holds =
     let done : Operator = polls outcome.Done operator in
-    let P : List Operator → Type 0 = λ os. Holds steps (parts_with parts at (Made bag)) (with_operators job os) in
+    let P : List Operator → Type 0 = λ os. JobHolds steps (parts_with parts at (Made bag)) (with_operators job os) in
     subst P (sym (set-set job.operators at done (record done { staged = Some bag }))) (staged_holds source name bag formed known is does waiting holds)
 
 left_of-fed_of : (received : Received) → left_of (fed_of received) ≡ left_of received
@@ -410,7 +410,7 @@ operator_left-sends_all at bag operator = omega (arith, sum_by-map_kept edge_lef
 
 operator_left-polls : (outcome : Outcome) (operator : Operator) → operator.polled ≡ false → operator_left (polls outcome operator) + 1 ≡ operator_left operator
 operator_left-polls outcome operator unpolled =
-    let same = sum_by-map_kept edge_left feeds operator.inputs (λ edge. left_of-fed_of edge.received) in
+    let same = sum_by-map_kept edge_left feeds_bag operator.inputs (λ edge. left_of-fed_of edge.received) in
     omega (arith, ap (λ (b : Bool). if◌then◌else◌ {A = ℕ} b 0 1) unpolled)
 
 sent_left : (job : JobState) (at : ℕ) (operator : Operator) (bag : BagOf) → slice_get job.operators at ≡ Some operator → operator.polled ≡ false
@@ -438,10 +438,10 @@ poll_left job at operator (step.Write source name) (Ok bag) is unpolled =
 
 -- an operator that can be polled is polled over a shelf that may have grown, and makes what its statement does over all files that agree then
 pub poll_goes : {steps : List ThinStep} {shelf : Kept} {job : JobState} {at : ℕ} (shelf' : Kept) (statement : ThinStep) (made : Result BagOf FaultKind)
-    → IsFormedThin steps → job.learned ≡ true → slice_get steps at ≡ Some statement → (can : OperatorCan job at (λ operator. can_poll operator ≡ true))
-    → Stands steps shelf job
+    → IsFormedThin steps → job.learned ≡ true → slice_get steps at ≡ Some statement → (can : OperatorCan job at (λ operator. is_pollable operator ≡ true))
+    → JobStands steps shelf job
     → ((files : FileMap) → Agrees shelf' files → Agrees shelf files)
-    → ((files : FileMap) → Agrees shelf' files → whole files statement (bags_here can.operator.inputs) ≡ made)
+    → ((files : FileMap) → Agrees shelf' files → due_bag files statement (bags_here can.operator.inputs) ≡ made)
     → Goes steps shelf' job (with_operators job (after_poll statement at can.operator made job.operators))
 poll_goes {job = job} {at} shelf' statement made formed known does can stands grows makes =
     let waiting = waits can.can (held_at stands.holds at can.operator can.there).held in
@@ -457,24 +457,24 @@ poll_goes {job = job} {at} shelf' statement made formed known does can stands gr
 -- ---- what a poll needs
 
 ready_first : (columns : List ℕ) (statement : ThinStep) (steps : List ThinStep) (bags : List BagOf) → FormedFrom columns (statement ∷ steps)
-    → length bags ≡ edges_of statement → IsReady statement bags
+    → length bags ≡ edges_of statement → IsPollReady statement bags
 unfolding FormedFrom
 ready_first columns (step.Read target name count) steps bags formed sized = (formed.0, formed.2)
 ready_first columns (step.Union target left right) steps bags formed sized = tt
 ready_first columns (step.Write source name) steps bags formed sized = omega arith
 
 ready_at : (assigned : List ℕ) (at : ℕ) (steps : List ThinStep) (k : ℕ) (statement : ThinStep) (bags : List BagOf) → FormedAfter assigned steps
-    → slice_get steps k ≡ Some statement → length bags ≡ edges_of statement → IsReady statement bags
+    → slice_get steps k ≡ Some statement → length bags ≡ edges_of statement → IsPollReady statement bags
 ready_at assigned at [] k statement bags formed does sized = cc
 ready_at assigned at (first ∷ steps) zero statement bags formed does sized =
     let same : first ≡ statement = cc in
-    let P : ThinStep → Type 0 = λ s. IsReady s bags in
+    let P : ThinStep → Type 0 = λ s. IsPollReady s bags in
     subst P same (ready_first formed.columns first steps bags formed.formed (sized ∙ ap edges_of (sym same)))
 ready_at assigned at (first ∷ steps) (suc k) statement bags formed does sized =
     ready_at (assigned_after assigned at first) (at + 1) steps k statement bags (formed_next assigned at first steps formed).later does sized
 
 pub ready : {steps : List ThinStep} {shelf : Kept} {job : JobState} {at : ℕ} (statement : ThinStep) → IsFormedThin steps → slice_get steps at ≡ Some statement
-    → (can : OperatorCan job at (λ operator. can_poll operator ≡ true)) → Stands steps shelf job → IsReady statement (bags_here can.operator.inputs)
+    → (can : OperatorCan job at (λ operator. is_pollable operator ≡ true)) → JobStands steps shelf job → IsPollReady statement (bags_here can.operator.inputs)
 ready {steps} {at = at} statement formed does can stands =
     let inputs : List Edge = can.operator.inputs in
     let leads = sources_at steps at statement does in

@@ -5,8 +5,8 @@ use Rattle.std.specs.List.{All}
 use Rattle.std.proofs.lemmas.Bool.{cond_both}
 use Rattle.std.proofs.lemmas.List.Elements.{All-cons, All-nil, All-push, All-set, All-weaker}
 use Rattle.std.proofs.lemmas.Option.{same_Some}
-use Rattle.mit_engine.specs.Operators.{Fits, assigned_after, assigner, sources, sources_from, sources_of}
-use Rattle.mit_engine.specs.Thin.{assign, edges_of}
+use Rattle.mit_engine.specs.Operators.{FitsVariables, assigned_after, assigner, sources, sources_from, sources_of}
+use Rattle.mit_engine.specs.Thin.{edges_of, item_put}
 use Rattle.mit_engine.specs.declared.thin.ThinStep.{ThinStep}
 use Rattle.mit_engine.specs.declared.thin.ThinStep.TheVariants as step
 use Rattle.mit_engine.proofs.FormedLemmas.{FormedAfter, formed_next}
@@ -46,7 +46,7 @@ Assigns (step.Read target name count) = Unit {0}
 Assigns (step.Union target left right) = Unit {0}
 Assigns (step.Write source name) = ⊥
 
-all_assign : (P : ℕ → Type 0) (assigned : List ℕ) (target at : ℕ) → All P assigned → P at → All P (assign assigned target at)
+all_assign : (P : ℕ → Type 0) (assigned : List ℕ) (target at : ℕ) → All P assigned → P at → All P (item_put assigned target at)
 all_assign P assigned target at all own =
     cond_both (nat_lt target (length assigned)) (slice_set assigned target at) (assigned ++ at ∷ []) (All P)
     (λ _. All-set P assigned target at own all) (λ _. All-push P assigned at all own)
@@ -56,7 +56,7 @@ all_after P assigned at (step.Read target name count) all own = all_assign P ass
 all_after P assigned at (step.Union target left right) all own = all_assign P assigned target at all (own tt)
 all_after P assigned at (step.Write source name) all own = all
 
-all_sources : (P : ℕ → Type 0) (assigned : List ℕ) (first : ThinStep) → Fits (length assigned) first → All P assigned → All P (sources_of assigned first)
+all_sources : (P : ℕ → Type 0) (assigned : List ℕ) (first : ThinStep) → FitsVariables (length assigned) first → All P assigned → All P (sources_of assigned first)
 all_sources P assigned (step.Read target name count) fits all = All-nil P
 all_sources P assigned (step.Union target left right) fits all =
     All-cons P (assigner assigned left) (assigner assigned right ∷ []) (all left 0 fits.1)

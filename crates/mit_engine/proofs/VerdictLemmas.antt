@@ -3,7 +3,7 @@ use Rattle.std.proofs.Common.{◌≡◌, ◌∙◌, ◌<◌, ◌+◌, ◌⊎◌,
 use Rattle.std.specs.Prelude.{Bool, true, Option, Some, None, slice_get}
 use Rattle.std.proofs.lemmas.Option.{same_Some}
 use Rattle.mit_rows.specs.Bags.{BagOf}
-use Rattle.mit_engine.specs.Running.{AtFault, Made, Part, ReportsPart, Unmade, verdict_at, verdict_from}
+use Rattle.mit_engine.specs.Running.{AtFault, Made, MadePart, ReportsPart, Unmade, verdict_at, verdict_from}
 use Rattle.mit_ops.specs.declared.faults.FaultKind.{FaultKind}
 use Rattle.mit_engine.specs.declared.job.Verdict.{Verdict}
 use Rattle.mit_engine.specs.declared.job.Verdict.TheVariants as verdict
@@ -14,20 +14,20 @@ use Rattle.mit_engine.specs.declared.operators.Outcome.TheVariants as outcome
 -- ---- what was heard of an operator
 
 -- the bag of a part, where it is made
-abbrev pub bag_of : Part → BagOf
+abbrev pub bag_of : MadePart → BagOf
 bag_of Unmade = []
 bag_of (Made bag) = bag
 bag_of (AtFault kind) = []
 
 -- one that was heard Done has made its bag, and one that was heard to be at fault has failed
-pub done_made : (part : Part) (polled : Bool) (reports : List Outcome) (heard : Option Outcome) → ReportsPart part polled reports heard
+pub done_made : (part : MadePart) (polled : Bool) (reports : List Outcome) (heard : Option Outcome) → ReportsPart part polled reports heard
     → heard ≡ Some outcome.Done → (part ≡ Made (bag_of part)) × (polled ≡ true)
 done_made Unmade polled reports heard told done = cc
 done_made (Made bag) polled reports heard told done = (refl, told.0)
 done_made (AtFault kind) polled reports heard (is, inl waits) done = cc
 done_made (AtFault kind) polled reports heard (is, inr came) done = cc
 
-pub fault_failed : (part : Part) (polled : Bool) (reports : List Outcome) (heard : Option Outcome) (kind : FaultKind) → ReportsPart part polled reports heard
+pub fault_failed : (part : MadePart) (polled : Bool) (reports : List Outcome) (heard : Option Outcome) (kind : FaultKind) → ReportsPart part polled reports heard
     → heard ≡ Some (outcome.Fault kind) → part ≡ AtFault kind
 fault_failed Unmade polled reports heard kind told fault = cc
 fault_failed (Made bag) polled reports heard kind (is, inl waits) fault = cc

@@ -8,7 +8,7 @@ use Rattle.mit_world.specs.Files.{FileMap}
 use Rattle.mit_shelf.specs.Printed.{Write}
 use Rattle.mit_engine.specs.Reads.{integers, read_bag}
 use Rattle.mit_shelf.specs.Names.{IsLegal}
-use Rattle.mit_engine.specs.Thin.{assign}
+use Rattle.mit_engine.specs.Thin.{item_put}
 use Rattle.mit_ops.specs.declared.faults.FaultKind.{FaultKind}
 use Rattle.mit_shelf.specs.declared.stop.Stop.{Stop}
 use Rattle.mit_shelf.specs.declared.stop.Stop.TheVariants as stop
@@ -25,8 +25,8 @@ use Rattle.mit_engine.specs.declared.thin.ThinStep.TheVariants as step
 
 -- the operator that assigned each variable last, after the statement at this place
 abbrev pub assigned_after : List ℕ → ℕ → ThinStep → List ℕ
-assigned_after assigned at (step.Read target name count) = assign assigned target at
-assigned_after assigned at (step.Union target left right) = assign assigned target at
+assigned_after assigned at (step.Read target name count) = item_put assigned target at
+assigned_after assigned at (step.Union target left right) = item_put assigned target at
 assigned_after assigned at (step.Write source name) = assigned
 
 abbrev pub assigner : List ℕ → ℕ → ℕ
@@ -39,10 +39,10 @@ sources_of assigned (step.Union target left right) = assigner assigned left ∷ 
 sources_of assigned (step.Write source name) = assigner assigned source ∷ []
 
 -- each variable that a statement names is assigned, but for the next new one as its target
-abbrev pub Fits : ℕ → ThinStep → Type 0
-Fits variables (step.Read target name count) = target ≤ variables
-Fits variables (step.Union target left right) = (target ≤ variables) × (left < variables) × (right < variables)
-Fits variables (step.Write source name) = source < variables
+abbrev pub FitsVariables : ℕ → ThinStep → Type 0
+FitsVariables variables (step.Read target name count) = target ≤ variables
+FitsVariables variables (step.Union target left right) = (target ≤ variables) × (left < variables) × (right < variables)
+FitsVariables variables (step.Write source name) = source < variables
 
 unfoldable pub sources_from : List ℕ → ℕ → List ThinStep → List (List ℕ)
 sources_from assigned at [] = []
@@ -58,8 +58,8 @@ abbrev pub received_of : Edge → List BagOf → Edge
 received_of edge [] = edge
 received_of edge (bag ∷ later) = record edge { parts = later; received = Here bag }
 
-abbrev pub takes : Edge → Edge
-takes edge = received_of edge edge.parts
+abbrev pub takes_part : Edge → Edge
+takes_part edge = received_of edge edge.parts
 
 abbrev pub is_received : Received → Bool
 is_received Awaited = false
@@ -84,8 +84,8 @@ fed_of Awaited = Awaited
 fed_of (Here bag) = Fed
 fed_of Fed = Fed
 
-abbrev pub feeds : Edge → Edge
-feeds edge = record edge { received = fed_of edge.received }
+abbrev pub feeds_bag : Edge → Edge
+feeds_bag edge = record edge { received = fed_of edge.received }
 
 -- a bag goes into the channel of each edge that leads away from this operator
 abbrev pub sends : ℕ → BagOf → Edge → Edge
@@ -103,12 +103,12 @@ abbrev pub hears : Operator → Operator
 hears operator = heard_of operator operator.reports
 
 -- an operator can be polled once, when each of its inputs is received
-abbrev pub can_poll : Operator → Bool
-can_poll operator = not operator.polled && list_all is_here operator.inputs
+abbrev pub is_pollable : Operator → Bool
+is_pollable operator = not operator.polled && list_all is_here operator.inputs
 
 -- what a poll leaves of the operator itself: its inputs are fed, and it reports
 abbrev pub polls : Outcome → Operator → Operator
-polls outcome operator = record operator { inputs = map feeds operator.inputs; polled = true; reports = operator.reports ++ outcome ∷ [] }
+polls outcome operator = record operator { inputs = map feeds_bag operator.inputs; polled = true; reports = operator.reports ++ outcome ∷ [] }
 
 abbrev pub first_edge : ℕ → Edge
 first_edge source = record { from = source; parts = []; received = Awaited }
@@ -155,23 +155,23 @@ actions_left job = length job.path + sum_by operator_left job.operators
 -- ---- what a statement makes of its inputs
 
 -- a read gives its file, a union the sum of its inputs, and a write the bag that it writes
-abbrev pub whole : FileMap → ThinStep → List BagOf → Result BagOf FaultKind
-whole files (step.Read target name count) bags = read_bag files name (integers count)
-whole files (step.Union target left right) bags = Ok (bag_sum bags)
-whole files (step.Write source name) bags = Ok (slice_index_or bags 0 [])
+abbrev pub due_bag : FileMap → ThinStep → List BagOf → Result BagOf FaultKind
+due_bag files (step.Read target name count) bags = read_bag files name (integers count)
+due_bag files (step.Union target left right) bags = Ok (bag_sum bags)
+due_bag files (step.Write source name) bags = Ok (slice_index_or bags 0 [])
 
 -- a bag or a fault of a poll is the due one; a failed folder and out of memory say nothing of it
-abbrev pub GivesBag : Result BagOf FaultKind → Result BagOf (Stop FaultKind) → Type 0
-GivesBag due (Ok bag) = due ≡ Ok bag
-GivesBag due (Err (stop.Fault kind)) = due ≡ Err kind
-GivesBag due (Err stop.Folder) = ⊤
-GivesBag due (Err stop.NoMemory) = ⊤
+abbrev pub PollGivesBag : Result BagOf FaultKind → Result BagOf (Stop FaultKind) → Type 0
+PollGivesBag due (Ok bag) = due ≡ Ok bag
+PollGivesBag due (Err (stop.Fault kind)) = due ≡ Err kind
+PollGivesBag due (Err stop.Folder) = ⊤
+PollGivesBag due (Err stop.NoMemory) = ⊤
 
 -- what a poll needs: a legal name and few columns for a read, and for a write its bag
-abbrev pub IsReady : ThinStep → List BagOf → Type 0
-IsReady (step.Read target name count) bags = IsLegal name × (count ≤ MAX_COLUMNS)
-IsReady (step.Union target left right) bags = ⊤
-IsReady (step.Write source name) bags = 0 < length bags
+abbrev pub IsPollReady : ThinStep → List BagOf → Type 0
+IsPollReady (step.Read target name count) bags = IsLegal name × (count ≤ MAX_COLUMNS)
+IsPollReady (step.Union target left right) bags = ⊤
+IsPollReady (step.Write source name) bags = 0 < length bags
 
 -- where the bag of this operator goes: a write stages it, and any other sends it along its edges
 unfoldable pub passed_on : ThinStep → ℕ → Operator → BagOf → List Operator → List Operator

@@ -4,7 +4,7 @@ use Rattle.std.specs.Prelude.{◌≡◌, ◌<◌, ⊤, ◌⊎◌, ℕ, ◌+◌, 
 use Rattle.mit_rows.specs.Bags.{BagOf}
 use Rattle.mit_world.specs.Files.{FileMap}
 use Rattle.mit_shelf.specs.Shelf.{Agrees, Kept}
-use Rattle.mit_engine.specs.Operators.{JobState, actions_left, can_poll, sources, whole}
+use Rattle.mit_engine.specs.Operators.{JobState, actions_left, due_bag, is_pollable, sources}
 use Rattle.mit_ops.specs.declared.faults.FaultKind.{FaultKind}
 use Rattle.mit_engine.specs.declared.edges.Edge.{Edge}
 use Rattle.mit_engine.specs.declared.edges.Received.{Received}
@@ -30,17 +30,17 @@ unfoldable pub reports_from : ℕ → List Operator → List Action
 reports_from at [] = []
 reports_from at (operator ∷ operators) = where_any operator.reports (action.Hear at) ++ reports_from (at + 1) operators
 
-unfoldable pub edges_from : ℕ → ℕ → List Edge → List Action
-edges_from at input [] = []
-edges_from at input (edge ∷ edges) = where_any edge.parts (action.Take at input) ++ edges_from at (input + 1) edges
+unfoldable pub edge_parts_from : ℕ → ℕ → List Edge → List Action
+edge_parts_from at input [] = []
+edge_parts_from at input (edge ∷ edges) = where_any edge.parts (action.Take at input) ++ edge_parts_from at (input + 1) edges
 
 unfoldable pub parts_from : ℕ → List Operator → List Action
 parts_from at [] = []
-parts_from at (operator ∷ operators) = edges_from at 0 operator.inputs ++ parts_from (at + 1) operators
+parts_from at (operator ∷ operators) = edge_parts_from at 0 operator.inputs ++ parts_from (at + 1) operators
 
 unfoldable pub polls_from : ℕ → List Operator → List Action
 polls_from at [] = []
-polls_from at (operator ∷ operators) = (if can_poll operator then action.Poll at ∷ [] else []) ++ polls_from (at + 1) operators
+polls_from at (operator ∷ operators) = (if is_pollable operator then action.Poll at ∷ [] else []) ++ polls_from (at + 1) operators
 
 -- the path's message, then the reports by operator, the parts by operator and edge, and the polls by operator
 abbrev pub offer_of : JobState → List Action
@@ -64,7 +64,7 @@ abbrev pub IsEnabled : JobState → Action → Type 0
 IsEnabled job action.Learn = 0 < length job.path
 IsEnabled job (action.Hear at) = OperatorCan job at (λ operator. 0 < length operator.reports)
 IsEnabled job (action.Take at input) = OperatorCan job at (HasPart input)
-IsEnabled job (action.Poll at) = (job.learned ≡ true) × OperatorCan job at (λ operator. can_poll operator ≡ true)
+IsEnabled job (action.Poll at) = (job.learned ≡ true) × OperatorCan job at (λ operator. is_pollable operator ≡ true)
 
 -- ---- the end
 
@@ -84,22 +84,22 @@ verdict_of job = verdict_from 0 job.operators
 -- ---- what the channels hold
 
 -- what an operator has made: nothing before its poll, then a bag or a fault
-pub data Part : Type 0 where
-  Unmade : Part
-  Made : BagOf → Part
-  AtFault : FaultKind → Part
+pub data MadePart : Type 0 where
+  Unmade : MadePart
+  Made : BagOf → MadePart
+  AtFault : FaultKind → MadePart
 
 -- a report is in its channel, or it was heard
-abbrev pub Reports : Outcome → List Outcome → Option Outcome → Type 0
-Reports outcome reports heard = ((reports ≡ outcome ∷ []) × (heard ≡ None)) ⊎ ((reports ≡ []) × (heard ≡ Some outcome))
+abbrev pub ReportsOutcome : Outcome → List Outcome → Option Outcome → Type 0
+ReportsOutcome outcome reports heard = ((reports ≡ outcome ∷ []) × (heard ≡ None)) ⊎ ((reports ≡ []) × (heard ≡ Some outcome))
 
-abbrev pub ReportsPart : Part → Bool → List Outcome → Option Outcome → Type 0
+abbrev pub ReportsPart : MadePart → Bool → List Outcome → Option Outcome → Type 0
 ReportsPart Unmade polled reports heard = (polled ≡ false) × (reports ≡ []) × (heard ≡ None)
-ReportsPart (Made bag) polled reports heard = (polled ≡ true) × Reports outcome.Done reports heard
-ReportsPart (AtFault kind) polled reports heard = (polled ≡ true) × Reports (outcome.Fault kind) reports heard
+ReportsPart (Made bag) polled reports heard = (polled ≡ true) × ReportsOutcome outcome.Done reports heard
+ReportsPart (AtFault kind) polled reports heard = (polled ≡ true) × ReportsOutcome (outcome.Fault kind) reports heard
 
 -- an edge holds nothing before its source has made a bag; then the bag is in its channel, or received, or fed to its target's poll
-abbrev pub EdgeHolds : Part → Bool → List BagOf → Received → Type 0
+abbrev pub EdgeHolds : MadePart → Bool → List BagOf → Received → Type 0
 EdgeHolds Unmade polled parts received = (polled ≡ false) × (parts ≡ []) × (received ≡ Awaited)
 EdgeHolds (AtFault kind) polled parts received = (polled ≡ false) × (parts ≡ []) × (received ≡ Awaited)
 EdgeHolds (Made bag) polled parts received =
@@ -108,7 +108,7 @@ EdgeHolds (Made bag) polled parts received =
     ⊎ ((polled ≡ true) × (parts ≡ []) × (received ≡ Fed))
 
 -- a write that has made its bag has staged it
-abbrev pub StagesPart : ThinStep → Part → Option BagOf → Type 0
+abbrev pub StagesPart : ThinStep → MadePart → Option BagOf → Type 0
 StagesPart (step.Write source name) (Made bag) staged = staged ≡ Some bag
 StagesPart (step.Write source name) Unmade staged = ⊤
 StagesPart (step.Write source name) (AtFault kind) staged = ⊤
@@ -116,19 +116,19 @@ StagesPart (step.Read target name count) part staged = ⊤
 StagesPart (step.Union target left right) part staged = ⊤
 
 -- an operator, its sources and the parts of all operators
-pub record OperatorHolds (statement : ThinStep) (from : List ℕ) (parts : ℕ → Part) (at : ℕ) (operator : Operator) : Type 0 where
+pub record OperatorHolds (statement : ThinStep) (from : List ℕ) (parts : ℕ → MadePart) (at : ℕ) (operator : Operator) : Type 0 where
   pub wired : map (λ edge. edge.from) operator.inputs ≡ from
   pub reports : ReportsPart (parts at) operator.polled operator.reports operator.heard
   pub edges : (input : ℕ) (edge : Edge) → slice_get operator.inputs input ≡ Some edge → EdgeHolds (parts edge.from) operator.polled edge.parts edge.received
   pub staged : StagesPart statement (parts at) operator.staged
 
 -- the path's one message is in its channel, or it was learned, and nothing is made before
-abbrev pub PathHolds : (ℕ → Part) → List ℕ → Bool → Type 0
+abbrev pub PathHolds : (ℕ → MadePart) → List ℕ → Bool → Type 0
 PathHolds parts path learned =
     ((learned ≡ false) × (path ≡ 0 ∷ []) × ((at : ℕ) → parts at ≡ Unmade)) ⊎ ((learned ≡ true) × (path ≡ []))
 
 -- the channels hold what the parts say
-pub record Holds (steps : List ThinStep) (parts : ℕ → Part) (job : JobState) : Type 0 where
+pub record JobHolds (steps : List ThinStep) (parts : ℕ → MadePart) (job : JobState) : Type 0 where
   pub sized : length job.operators ≡ length steps
   pub begun : PathHolds parts job.path job.learned
   pub each : (at : ℕ) (operator : Operator) (statement : ThinStep) (from : List ℕ)
@@ -136,35 +136,35 @@ pub record Holds (steps : List ThinStep) (parts : ℕ → Part) (job : JobState)
       → OperatorHolds statement from parts at operator
 
 -- the bags that these operators have made, where all have
-abbrev pub with_bag : Part → Option (List BagOf) → Option (List BagOf)
-with_bag (Made bag) (Some bags) = Some (bag ∷ bags)
-with_bag (Made bag) None = None
-with_bag Unmade bags = None
-with_bag (AtFault kind) bags = None
+abbrev pub with_made_bag : MadePart → Option (List BagOf) → Option (List BagOf)
+with_made_bag (Made bag) (Some bags) = Some (bag ∷ bags)
+with_made_bag (Made bag) None = None
+with_made_bag Unmade bags = None
+with_made_bag (AtFault kind) bags = None
 
-abbrev pub bags_made : (ℕ → Part) → List ℕ → Option (List BagOf)
+abbrev pub bags_made : (ℕ → MadePart) → List ℕ → Option (List BagOf)
 bags_made parts [] = Some []
-bags_made parts (from ∷ later) = with_bag (parts from) (bags_made parts later)
+bags_made parts (from ∷ later) = with_made_bag (parts from) (bags_made parts later)
 
 -- what an operator has made is what its statement makes of its sources' bags
-abbrev pub MadeOf : FileMap → ThinStep → Option (List BagOf) → Part → Type 0
+abbrev pub MadeOf : FileMap → ThinStep → Option (List BagOf) → MadePart → Type 0
 MadeOf files statement bags Unmade = ⊤
 MadeOf files statement None (Made bag) = ⊥
-MadeOf files statement (Some bags) (Made bag) = whole files statement bags ≡ Ok bag
+MadeOf files statement (Some bags) (Made bag) = due_bag files statement bags ≡ Ok bag
 MadeOf files statement None (AtFault kind) = ⊥
-MadeOf files statement (Some bags) (AtFault kind) = whole files statement bags ≡ Err kind
+MadeOf files statement (Some bags) (AtFault kind) = due_bag files statement bags ≡ Err kind
 
-abbrev pub Means : FileMap → List ThinStep → (ℕ → Part) → Type 0
+abbrev pub Means : FileMap → List ThinStep → (ℕ → MadePart) → Type 0
 Means files steps parts = (at : ℕ) (statement : ThinStep) (from : List ℕ)
     → slice_get steps at ≡ Some statement → slice_get (sources steps) at ≡ Some from → MadeOf files statement (bags_made parts from) (parts at)
 
 -- the job stands for some parts, which mean the same over all files that agree with the shelf
-pub record Stands (steps : List ThinStep) (shelf : Kept) (job : JobState) : Type 0 where
-  pub parts : ℕ → Part
-  pub holds : Holds steps parts job
+pub record JobStands (steps : List ThinStep) (shelf : Kept) (job : JobState) : Type 0 where
+  pub parts : ℕ → MadePart
+  pub holds : JobHolds steps parts job
   pub means : (files : FileMap) → Agrees shelf files → Means files steps parts
 
 -- an action keeps this, and one action fewer is left
 pub record Goes (steps : List ThinStep) (shelf : Kept) (before job : JobState) : Type 0 where
-  pub stands : Stands steps shelf job
+  pub stands : JobStands steps shelf job
   pub counted : actions_left job + 1 ≡ actions_left before

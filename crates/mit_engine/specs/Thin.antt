@@ -38,35 +38,35 @@ IsFormedThin steps = (length steps ≤ MAX_STATEMENTS) × FormedFrom [] steps
 -- ---- the step-by-step interpreter
 
 -- how a script ends: with its writes in order, or with the first fault at a statement, counted from 1
-pub data Ending : Type 0 where
-  Finished : List Write → Ending
-  Faulted : ℕ → FaultKind → Ending
+pub data ThinEnding : Type 0 where
+  Finished : List Write → ThinEnding
+  Faulted : ℕ → FaultKind → ThinEnding
 
 -- the store has each variable's bag at its number
-abbrev pub bag_in : List BagOf → ℕ → BagOf
-bag_in store variable = slice_index_or store variable []
+abbrev pub variable_bag : List BagOf → ℕ → BagOf
+variable_bag store variable = slice_index_or store variable []
 
 -- a list with one item more or in the place of an old one, at the next new place or at one that it has
-abbrev pub assign : {A : Type 0} → List A → ℕ → A → List A
-assign store target item = if nat_lt target (length store) then slice_set store target item else store ++ item ∷ []
+abbrev pub item_put : {A : Type 0} → List A → ℕ → A → List A
+item_put store target item = if nat_lt target (length store) then slice_set store target item else store ++ item ∷ []
 
 -- what follows a read: the later statements over its bag, or its fault
-abbrev pub after_read : (BagOf → Ending) → ℕ → Result BagOf FaultKind → Ending
+abbrev pub after_read : (BagOf → ThinEnding) → ℕ → Result BagOf FaultKind → ThinEnding
 after_read later statement (Ok bag) = later bag
 after_read later statement (Err kind) = Faulted statement kind
 
 -- the statements from number `statement` on, over these files, a store and the writes so far
-unfoldable pub exec_from : FileMap → ℕ → List BagOf → List Write → List ThinStep → Ending
+unfoldable pub exec_from : FileMap → ℕ → List BagOf → List Write → List ThinStep → ThinEnding
 exec_from files statement store writes [] = Finished writes
 exec_from files statement store writes (step.Read target name count ∷ steps) =
-    after_read (λ bag. exec_from files (statement + 1) (assign store target bag) writes steps) statement (read_bag files name (integers count))
+    after_read (λ bag. exec_from files (statement + 1) (item_put store target bag) writes steps) statement (read_bag files name (integers count))
 exec_from files statement store writes (step.Union target left right ∷ steps) =
-    exec_from files (statement + 1) (assign store target (bag_sum (bag_in store left ∷ bag_in store right ∷ []))) writes steps
+    exec_from files (statement + 1) (item_put store target (bag_sum (variable_bag store left ∷ variable_bag store right ∷ []))) writes steps
 exec_from files statement store writes (step.Write source name ∷ steps) =
-    exec_from files (statement + 1) store (writes ++ record { name = name; bag = bag_in store source } ∷ []) steps
+    exec_from files (statement + 1) store (writes ++ record { name = name; bag = variable_bag store source } ∷ []) steps
 
-abbrev pub exec : FileMap → List ThinStep → Ending
-exec files steps = exec_from files 1 [] [] steps
+abbrev pub exec_thin : FileMap → List ThinStep → ThinEnding
+exec_thin files steps = exec_from files 1 [] [] steps
 
 -- ---- the number of actions
 
@@ -77,6 +77,6 @@ edges_of (step.Union target left right) = 2
 edges_of (step.Write source name) = 1
 
 -- none without statements; else the path's one message, a poll and a report for each statement, and a part for each edge
-abbrev pub actions_of : List ThinStep → ℕ
-actions_of [] = 0
-actions_of (first ∷ steps) = 1 + 2 * length (first ∷ steps) + sum_by edges_of (first ∷ steps)
+abbrev pub action_count : List ThinStep → ℕ
+action_count [] = 0
+action_count (first ∷ steps) = 1 + 2 * length (first ∷ steps) + sum_by edges_of (first ∷ steps)

@@ -1,7 +1,7 @@
 //! The edges that lead to an operator: their channels, and what was received of them.
 ghost use Rattle.std.specs.Prelude.{◌≡◌, ◌==◌, ◌<◌, ◌≤◌, ◌++◌, IfOk, IfSome, OnOk, drop, length, map, not, option_to_list, slice_get, slice_set, take};
 ghost use Rattle.std.specs.List.{list_all, list_any};
-ghost use Rattle.mit_engine.specs.Operators.{bag_received, bags_here, feeds, first_edge, is_here, sends, takes};
+ghost use Rattle.mit_engine.specs.Operators.{bag_received, bags_here, feeds_bag, first_edge, is_here, sends, takes_part};
 
 use crate::channel::Channel;
 use mit_rows::Bag;
@@ -70,7 +70,7 @@ impl Inputs {
     /// Receives the oldest message of an edge, where it has one.
     pub(crate) fn take(&mut self, input: usize)
         requires { input < length self.old }
-        ensures { IfSome (slice_get self.old input) (λ edge. self.new ≡ slice_set self.old input (takes edge)) }
+        ensures { IfSome (slice_get self.old input) (λ edge. self.new ≡ slice_set self.old input (takes_part edge)) }
     {
         let edge = &mut self.edges[input];
         if let Some(bag) = edge.parts.take() {
@@ -88,7 +88,7 @@ impl Inputs {
     /// Hands out the received bags in the order of the edges.
     pub(crate) fn feed(&mut self, alloc: Global) -> Result<Vec<Bag>, AllocError>
         ensures fed { IfOk result (λ bags. bags.items ≡ bags_here self.old) }
-        ensures edges { OnOk result (self.new ≡ map feeds self.old) }
+        ensures edges { OnOk result (self.new ≡ map feeds_bag self.old) }
     {
         let mut bags = Vec::with_capacity(alloc, self.edges.len())?;
         for edge in self.edges.iter_mut() {
@@ -167,7 +167,7 @@ impl Edge {
 
     // Hands out the received bag.
     fn feed(&mut self) -> Option<Bag>
-        ensures edge { self.new ≡ feeds self.old }
+        ensures edge { self.new ≡ feeds_bag self.old }
         ensures bag { option_to_list result ≡ bag_received self.old.received }
     {
         match mem::replace(&mut self.received, Received::Fed) {

@@ -3,10 +3,10 @@ ghost use Rattle.std.specs.Prelude.{◌≡◌, ◌≤◌, ◌<◌, ◌++◌, tru
 ghost use Rattle.mit_rows.specs.Bags.{BagOf};
 ghost use Rattle.mit_world.specs.Files.{FileMap};
 ghost use Rattle.mit_world.specs.Outside.{IfFailed, Rose};
-ghost use Rattle.mit_engine.specs.Operators.{IsReady, after_poll, bags_here, first_job, passed_on, whole, with_operators, staged_writes};
+ghost use Rattle.mit_engine.specs.Operators.{IsPollReady, after_poll, bags_here, first_job, passed_on, due_bag, with_operators, staged_writes};
 ghost use Rattle.mit_ops.specs.declared.faults.FaultKind.{FaultKind};
 ghost use Rattle.mit_shelf.specs.Printed.{published};
-ghost use Rattle.mit_engine.specs.Running.{Goes, IsEnabled, Stands, edges_from, offer_of, parts_from, polls_from, reports_from, verdict_of};
+ghost use Rattle.mit_engine.specs.Running.{Goes, IsEnabled, JobStands, edge_parts_from, offer_of, parts_from, polls_from, reports_from, verdict_of};
 ghost use Rattle.mit_shelf.specs.Shelf.{Agrees};
 ghost use Rattle.mit_engine.specs.Thin.{IsFormedThin};
 
@@ -119,7 +119,7 @@ impl Job {
         folder: &mut F,
     ) -> Result<(), OutsideStop>
         requires formed { IsFormedThin steps.now }
-        requires stands { Stands steps.now shelf.old self.old }
+        requires stands { JobStands steps.now shelf.old self.old }
         requires enabled { IsEnabled self.old action }
         ensures goes { OnOk result (Goes steps.now shelf.new self.old self.new) }
         ensures grows { (files : FileMap) → Agrees shelf.new files → Agrees shelf.old files }
@@ -174,10 +174,10 @@ impl Job {
         folder: &mut F,
     ) -> Result<(), OutsideStop>
         requires within { at < length self.old.operators }
-        requires ready { IfSome (slice_get self.old.operators at) (λ operator. IsReady step.now (bags_here operator.inputs)) }
+        requires ready { IfSome (slice_get self.old.operators at) (λ operator. IsPollReady step.now (bags_here operator.inputs)) }
         ensures polled { OnOk result (IfSome (slice_get self.old.operators at) (λ operator. (made : Result BagOf FaultKind)
             × (self.new ≡ with_operators self.old (after_poll step.now at operator made self.old.operators))
-            × ((files : FileMap) → Agrees shelf.new files → whole files step.now (bags_here operator.inputs) ≡ made))) }
+            × ((files : FileMap) → Agrees shelf.new files → due_bag files step.now (bags_here operator.inputs) ≡ made))) }
         ensures grows { (files : FileMap) → Agrees shelf.new files → Agrees shelf.old files }
         ensures agrees { IfSome (F.files folder.old) (λ files. Agrees shelf.old files → Agrees shelf.new files) }
         ensures failed { IfErr result (λ stop. IfFailed stop (Rose (F.faults folder.old) (F.faults folder.new))) }
@@ -245,7 +245,7 @@ fn offer_parts(offer: &mut Vec<Action>, operators: &[Operator]) -> Result<(), Al
 
 // The deliveries of the parts of one operator.
 fn offer_inputs(offer: &mut Vec<Action>, at: usize, edges: &[Edge]) -> Result<(), AllocError>
-    ensures { OnOk result (offer.new.items ≡ offer.old.items ++ edges_from at 0 edges.now) }
+    ensures { OnOk result (offer.new.items ≡ offer.old.items ++ edge_parts_from at 0 edges.now) }
 {
     for (input, edge) in edges.iter().enumerate() {
         if edge.has_message() {

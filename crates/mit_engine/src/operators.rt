@@ -1,7 +1,7 @@
 //! The operators of a job, one for each statement.
 ghost use Rattle.std.specs.Prelude.{◌≡◌, ◌≤◌, ◌++◌, ◌∷◌, [], true, IfOk, OnOk, drop, length, map, take, vec_len};
 ghost use Rattle.std.specs.FinMap as fin;
-ghost use Rattle.mit_engine.specs.Operators.{Fits, assigned_after, can_poll, first_operator, hears, sends_all, sources, sources_of, staged_writes};
+ghost use Rattle.mit_engine.specs.Operators.{FitsVariables, assigned_after, first_operator, hears, is_pollable, sends_all, sources, sources_of, staged_writes};
 ghost use Rattle.mit_shelf.specs.Printed.{bag_text, published, published_onto};
 ghost use Rattle.mit_engine.specs.Thin.{IsFormedThin};
 
@@ -51,7 +51,7 @@ impl Operator {
 
     /// Whether it can be polled.
     pub(crate) fn can_poll(&self) -> bool
-        ensures { result ≡ can_poll self.now }
+        ensures { result ≡ is_pollable self.now }
     {
         !self.polled && self.inputs.are_here()
     }
@@ -168,7 +168,7 @@ fn write(alloc: Global, written: &mut Files, name: &Name, bag: &Bag) -> Result<(
 
 // An operator of this statement, whose arguments were assigned by these operators.
 fn operator_of(alloc: Global, assigned: &[usize], step: &ThinStep) -> Result<Operator, AllocError>
-    requires { Fits (length assigned.now) step.now }
+    requires { FitsVariables (length assigned.now) step.now }
     ensures { IfOk result (λ operator. operator ≡ first_operator (sources_of assigned.now step.now)) }
 {
     match step {
@@ -185,7 +185,7 @@ fn operator_of(alloc: Global, assigned: &[usize], step: &ThinStep) -> Result<Ope
 
 // Notes the operator that assigns a variable.
 fn note(assigned: &mut Vec<usize>, step: &ThinStep, at: usize) -> Result<(), AllocError>
-    requires { Fits (vec_len assigned.old) step.now }
+    requires { FitsVariables (vec_len assigned.old) step.now }
     ensures { OnOk result (assigned.new.items ≡ assigned_after assigned.old.items at step.now) }
 {
     match step {

@@ -24,8 +24,8 @@ pub(crate) fn whole<F: Folder>(
     mut inputs: Vec<Bag>,
     folder: &mut F,
 ) -> Result<Bag, Stop<FaultKind>>
-    requires { spec.IsReady step.now inputs.items }
-    ensures bag { (files : FileMap) → Agrees shelf.new files → spec.GivesBag (spec.whole files step.now inputs.items) result }
+    requires { spec.IsPollReady step.now inputs.items }
+    ensures bag { (files : FileMap) → Agrees shelf.new files → spec.PollGivesBag (spec.due_bag files step.now inputs.items) result }
     ensures grows { (files : FileMap) → Agrees shelf.new files → Agrees shelf.old files }
     ensures agrees { IfSome (F.files folder.old) (λ files. Agrees shelf.old files → Agrees shelf.new files) }
     ensures failed { IfErr result (λ stop. IfFolder stop (Rose (F.faults folder.old) (F.faults folder.new))) }
@@ -49,7 +49,7 @@ fn read<F: Folder>(
 ) -> Result<Bag, Stop<FaultKind>>
     requires legal { IsLegal name.now }
     requires few { columns ≤ MAX_COLUMNS }
-    ensures bag { (files : FileMap) → Agrees shelf.new files → spec.GivesBag (read_bag files name.now (integers columns)) result }
+    ensures bag { (files : FileMap) → Agrees shelf.new files → spec.PollGivesBag (read_bag files name.now (integers columns)) result }
     ensures grows { (files : FileMap) → Agrees shelf.new files → Agrees shelf.old files }
     ensures agrees { IfSome (F.files folder.old) (λ files. Agrees shelf.old files → Agrees shelf.new files) }
     ensures failed { IfErr result (λ stop. IfFolder stop (Rose (F.faults folder.old) (F.faults folder.new))) }
@@ -68,7 +68,7 @@ fn read<F: Folder>(
 // The bag of a file's rows.
 fn bag_of(alloc: Global, bytes: &[u8], columns: u8) -> Result<Bag, Stop<FaultKind>>
     requires { columns ≤ MAX_COLUMNS }
-    ensures bag { spec.GivesBag (bag_of_rows (rows_of bytes.now (integers columns))) result }
+    ensures bag { spec.PollGivesBag (bag_of_rows (rows_of bytes.now (integers columns))) result }
     ensures own { IfErr result (λ stop. stop ≢ Stop.Folder) }
 {
     let types = [ColType::Int; MAX_COLUMNS];

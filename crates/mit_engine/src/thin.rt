@@ -4,10 +4,10 @@ ghost use Rattle.mit_world.specs.Files.{FileMap};
 ghost use Rattle.mit_world.specs.Outside.{IfFailed, Rose};
 ghost use Rattle.mit_engine.specs.Job.{AnswersEnding};
 ghost use Rattle.mit_engine.specs.Picks.{GrowsBy, GrowsWithin};
-ghost use Rattle.mit_engine.specs.Running.{Goes, Stands, verdict_of};
+ghost use Rattle.mit_engine.specs.Running.{Goes, JobStands, verdict_of};
 ghost use Rattle.mit_shelf.specs.Shelf.{Agrees};
 ghost use Rattle.mit_shelf.specs.Stops.{IfFolder};
-ghost use Rattle.mit_engine.specs.Thin.{IsFormedThin, actions_of, exec};
+ghost use Rattle.mit_engine.specs.Thin.{IsFormedThin, action_count, exec_thin};
 ghost use Rattle.mit_engine.specs.declared.job.Verdict.TheVariants as verdict;
 
 use crate::job::{Job, Verdict};
@@ -97,7 +97,7 @@ pub fn run_thin<F: Folder, S: Schedule>(
     requires { IsFormedThin script.now }
 
     // Whatever the picks are, the answer is the interpreter's over all files that agree with the shelf then.
-    ensures answer { (files : FileMap) → Agrees shelf.new files → AnswersEnding script.now (exec files script.now) result }
+    ensures answer { (files : FileMap) → Agrees shelf.new files → AnswersEnding script.now (exec_thin files script.now) result }
 
     // Files that agree with the shelf now agreed with it before; those that the folder tells still agree.
     ensures grows { (files : FileMap) → Agrees shelf.new files → Agrees shelf.old files }
@@ -106,7 +106,7 @@ pub fn run_thin<F: Folder, S: Schedule>(
 
     // The log grows by one pick for each action, and never by more than the actions of a job that comes to its end.
     ensures picked { IfOk result (λ done. GrowsBy done.actions (S.log schedule.old) (S.log schedule.new)) }
-    ensures bounded { GrowsWithin (actions_of script.now) (S.log schedule.old) (S.log schedule.new) }
+    ensures bounded { GrowsWithin (action_count script.now) (S.log schedule.old) (S.log schedule.new) }
 
     // What the folder tells stays.
     ensures told { F.files folder.new ≡ F.files folder.old }
@@ -155,7 +155,7 @@ fn turn<F: Folder, S: Schedule>(
     schedule: &mut S,
 ) -> Result<(), OutsideStop>
     requires formed { IsFormedThin steps.now }
-    requires stands { Stands steps.now shelf.old job.old }
+    requires stands { JobStands steps.now shelf.old job.old }
     requires running { verdict_of job.old ≡ verdict.Running }
     ensures goes { OnOk result (Goes steps.now shelf.new job.old job.new) }
     ensures picked { OnOk result (GrowsBy 1 (S.log schedule.old) (S.log schedule.new)) }

@@ -10,7 +10,7 @@ use Rattle.std.proofs.lemmas.Str.{IsUtf8-from_ascii}
 use Rattle.mit_lex.specs.Pieces.{piece_at, symbol_piece, word_piece}
 use Rattle.mit_lex.specs.Tables.{keywords, symbols}
 use Rattle.mit_lex.specs.Valid.{IsToken}
-use Rattle.mit_lex.specs.Written.{IsGap, IsWrittenAs, gap_first, no_more, token_first, token_text}
+use Rattle.mit_lex.specs.Written.{IsGap, IsWrittenAs, gap_first, nothing_written, token_first, token_text}
 use Rattle.mit_lex.specs.declared.piece.Piece.{Piece}
 use Rattle.mit_lex.specs.declared.piece.Piece.TheVariants.{Found}
 use Rattle.mit_lex.specs.declared.token.TokenKind.{TokenKind}
@@ -114,7 +114,7 @@ reads_token (Symbol place) valid = table_reads (λ place. Symbol place) symbols 
 reads_token (Keyword place) valid = table_reads (λ place. Keyword place) keywords place valid keywords_cut
 
 pub written_cuts : {text : List ℕ} {kinds : List TokenKind} → IsWrittenAs text kinds → Cuts text kinds
-written_cuts no_more = cuts_nil
+written_cuts nothing_written = cuts_nil
 written_cuts (gap_first gap is_gap later) = cuts_append (cuts_gap gap is_gap) (written_cuts later)
 written_cuts (token_first {text = text} kind gap valid is_gap later) =
     rw (← append_assoc (token_text kind) (gap ∷ []) text) (cuts_append (cuts_token gap is_gap (reads_token kind valid)) (written_cuts later))

@@ -30,7 +30,7 @@ IsGap byte = (byte ≡ 32) ⊎ (byte ≡ 10)
 
 -- the text is these tokens as they are written, each with a gap after it, and any more gaps
 pub data IsWrittenAs : List ℕ → List TokenKind → Type 0 where
-  no_more : IsWrittenAs [] []
+  nothing_written : IsWrittenAs [] []
   gap_first : {text : List ℕ} {kinds : List TokenKind} → (gap : ℕ) → IsGap gap → IsWrittenAs text kinds → IsWrittenAs (gap ∷ text) kinds
   token_first : {text : List ℕ} {kinds : List TokenKind} → (kind : TokenKind) → (gap : ℕ) → IsToken kind → IsGap gap → IsWrittenAs text kinds
       → IsWrittenAs (token_text kind ++ gap ∷ text) (kind ∷ kinds)

@@ -11,7 +11,7 @@ use Rattle.mit_plan.specs.Plans.{edge_at, op_at}
 use Rattle.mit_machine.specs.Channels.{fate_of, is_send, is_target, made_places, sent_places}
 use Rattle.mit_machine.specs.Offers.{offered, released_in}
 use Rattle.mit_machine.specs.Places.{heard_by, makes, own_places}
-use Rattle.mit_machine.specs.Runs.{IsValidState, Runs, sum_over, total}
+use Rattle.mit_machine.specs.Runs.{IsValidState, Runs, actions_so_far, sum_over}
 use Rattle.mit_machine.specs.State.{Action, Machine, State, after, hear, learn, poll, raised, raised_in, take_bag}
 use Rattle.mit_machine.proofs.Fronts.{known_most}
 use Rattle.mit_machine.proofs.Offered.{IsWithin, offered_within}
@@ -87,7 +87,7 @@ sum_raised_bag edges parts edge from to counts is sender receiver =
     (λ one. sum_over (range_with_len 0 parts) (λ other. sum_over (range_with_len 0 parts) ((if one == edge then raised_in from to (counts one) else counts one) other))) is
     (λ one other. rw (ne_eqb one edge other) refl) (rw (eq-eqb edge edge refl) (sum_raised_in parts parts from to (counts edge) sender receiver))
 
-one_more : (machine : Machine) (state : State) (action : Action) → IsWithin machine action → total machine (after action state) ≡ total machine state + 1
+one_more : (machine : Machine) (state : State) (action : Action) → IsWithin machine action → actions_so_far machine (after action state) ≡ actions_so_far machine state + 1
 one_more machine state (learn part) within = omega (arith, sum_raised machine.job.partitions part state.seen within)
 one_more machine state (hear op part) within =
     omega (arith, sum_raised_in (length machine.job.plan.ops) machine.job.partitions op part state.heard within.0 within.1)
@@ -96,7 +96,7 @@ one_more machine state (take_bag edge from to) within =
 one_more machine state (poll op part) within =
     omega (arith, sum_raised_in (length machine.job.plan.ops) machine.job.partitions op part state.polls within.0 within.1)
 
-pub offered_counts : (machine : Machine) (state : State) (action : Action) → Contains (offered machine state) action → total machine (after action state) ≡ total machine state + 1
+pub offered_counts : (machine : Machine) (state : State) (action : Action) → Contains (offered machine state) action → actions_so_far machine (after action state) ≡ actions_so_far machine state + 1
 offered_counts machine state action is = one_more machine state action (offered_within machine state action is)
 
 -- ---- how far each counter goes
@@ -131,7 +131,7 @@ sent_most machine edge from to seen polls = by_target (is_target machine edge fr
 bound_is : (most parts ops edges : ℕ) → parts * most + ops * (parts * most) + ops * (parts * most) + edges * (parts * (parts * most)) ≡ most * parts * (1 + 2 * ops + edges * parts)
 bound_is most parts ops edges = grind arith
 
-pub total_most : (machine : Machine) (state : State) → Runs machine → IsValidState machine state → total machine state ≤ most_actions machine.job.plan machine.job.decisions machine.job.partitions
+pub total_most : (machine : Machine) (state : State) → Runs machine → IsValidState machine state → actions_so_far machine state ≤ most_actions machine.job.plan machine.job.decisions machine.job.partitions
 total_most machine state runs valid =
     let most = most_places machine.job.plan machine.job.decisions in
     let parts = machine.job.partitions in

@@ -12,7 +12,7 @@ use Rattle.mit_ops.specs.declared.leave.Leave.TheVariants.{Jump, Branch, End}
 use Rattle.mit_rows.specs.Bags.{BagOf}
 use Rattle.mit_plan.specs.Explained.{Explained}
 use Rattle.mit_plan.specs.Held.{History, Job, Part, decisions_before, failed, held, history_of, is_ok, ok, op_of, part, void}
-use Rattle.mit_plan.specs.Meant.{answer_in, at_end, ending_of, fault_at, fault_in, faults_of, first_or, last_block, pair}
+use Rattle.mit_plan.specs.Meant.{answer_in, at_end, fault_at, fault_in, faults_of, first_or, history_ending, last_block, pair}
 use Rattle.mit_plan.specs.Plans.{block_at, op_at}
 use Rattle.mit_plan.specs.Valid.{RangesFollow}
 use Rattle.mit_plan.specs.declared.plan.PlanBlock.{PlanBlock}
@@ -93,7 +93,7 @@ begins_stopped : (faults : List ScriptFault) (fault : ScriptFault) (ending : End
 begins_stopped faults fault ending begins = ap (λ (found : List ScriptFault). first_or found ending) begins.is
 
 front_ends : (machine : Machine) (reports : Reports) (fault : ScriptFault) → Facts machine → front machine reports < known machine reports
-    → fault_at machine.job.plan machine.history (pair (front machine reports) (front_index machine reports)) ≡ Some fault → ending_of machine.job machine.history ≡ stopped fault
+    → fault_at machine.job.plan machine.history (pair (front machine reports) (front_index machine reports)) ≡ Some fault → history_ending machine.job machine.history ≡ stopped fault
 front_ends machine reports fault facts below found =
     let last = last_block machine.job.plan machine.history.path in
     begins_stopped (faults_of machine.job machine.history) fault (at_end machine.job machine.history last last.leave)
@@ -117,7 +117,7 @@ end_is machine block (Branch on_true on_false) ending is =
 path_ends : (machine : Machine) (reports : Reports) (ending : Ending) → Runs machine → Facts machine → known machine reports ≤ front machine reports
     → known_end machine (take (known machine reports) machine.history.path) (last_block machine.job.plan (take (known machine reports) machine.history.path))
     (last_block machine.job.plan (take (known machine reports) machine.history.path)).leave ≡ Some ending
-    → ending ≡ ending_of machine.job machine.history
+    → ending ≡ history_ending machine.job machine.history
 path_ends machine reports ending runs facts done is =
     let plan = machine.job.plan in
     let path = machine.history.path in
@@ -132,12 +132,12 @@ path_ends machine reports ending runs facts done is =
 -- ---- the ending
 
 ending_by : (machine : Machine) (reports : Reports) (ending : Ending) → Runs machine → Facts machine
-    → ended_by machine reports (known machine reports) (front machine reports) ≡ Some ending → ending ≡ ending_of machine.job machine.history
+    → ended_by machine reports (known machine reports) (front machine reports) ≡ Some ending → ending ≡ history_ending machine.job machine.history
 ending_by machine reports ending runs facts is =
     by_test (nat_lt (front machine reports) (known machine reports)) refl is
   where
     by_fault : (found : Option ScriptFault) → fault_at machine.job.plan machine.history (pair (front machine reports) (front_index machine reports)) ≡ found
-        → front machine reports < known machine reports → option_map stopped found ≡ Some ending → ending ≡ ending_of machine.job machine.history
+        → front machine reports < known machine reports → option_map stopped found ≡ Some ending → ending ≡ history_ending machine.job machine.history
     by_fault None found below is = absurd cc
     by_fault (Some fault) found below is =
         let e : ending ≡ stopped fault = cc in
@@ -145,7 +145,7 @@ ending_by machine reports ending runs facts is =
 
     by_heard : (heard : Bool) → front machine reports < known machine reports
         → cond heard (option_map stopped (fault_at machine.job.plan machine.history (pair (front machine reports) (front_index machine reports)))) None ≡ Some ending
-        → ending ≡ ending_of machine.job machine.history
+        → ending ≡ history_ending machine.job machine.history
     by_heard true below is = by_fault (fault_at machine.job.plan machine.history (pair (front machine reports) (front_index machine reports))) refl below is
     by_heard false below is = absurd cc
 
@@ -155,14 +155,14 @@ ending_by machine reports ending runs facts is =
         (option_map stopped (fault_at machine.job.plan machine.history (pair (front machine reports) (front_index machine reports)))) None)
         (known_end machine (take (known machine reports) machine.history.path) (last_block machine.job.plan (take (known machine reports) machine.history.path))
         (last_block machine.job.plan (take (known machine reports) machine.history.path)).leave) ≡ Some ending
-        → ending ≡ ending_of machine.job machine.history
+        → ending ≡ history_ending machine.job machine.history
     by_test true less is =
         by_heard (list_all (reports (op_of machine.job.plan machine.history.path (front machine reports) (front_index machine reports)) (front machine reports)) (all_parts machine))
         (ltb-true (front machine reports) (known machine reports) less) is
     by_test false less is = path_ends machine reports ending runs facts (ltb-false (front machine reports) (known machine reports) less) is
 
 -- the ending of a run
-pub ending_is : PartsExplained → (machine : Machine) (state : State) (ending : Ending) → Runs machine → ended machine state ≡ Some ending → ending ≡ ending_of machine.job (history_of machine.job)
+pub ending_is : PartsExplained → (machine : Machine) (state : State) (ending : Ending) → Runs machine → ended machine state ≡ Some ending → ending ≡ history_ending machine.job (history_of machine.job)
 ending_is rows machine state ending runs is =
     ending_by machine (heard_by machine state.heard) ending runs (record { explained = explained_is rows machine runs; ranges = runs.plan.ranges }) is
-    ∙ ap (ending_of machine.job) runs.history
+    ∙ ap (history_ending machine.job) runs.history

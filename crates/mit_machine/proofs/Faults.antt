@@ -17,7 +17,7 @@ use Rattle.mit_plan.specs.Held.{History, Job, Part, all_there, bag_in, failed, h
 use Rattle.mit_plan.specs.Meant.{fault_at, pair}
 use Rattle.mit_plan.specs.Paths.{IsPath}
 use Rattle.mit_plan.specs.Plans.{PlanOf, edge_at, edges_to, is_phi, op_at}
-use Rattle.mit_plan.specs.Sums.{AreRouted, Takes, bag_at, bag_taken, bags_of}
+use Rattle.mit_plan.specs.Sums.{AreRouted, TakesBags, bag_at, bag_taken, bags_of}
 use Rattle.mit_plan.specs.Types.{AreTypes, type_at}
 use Rattle.mit_plan.specs.Valid.{InputsHaveEdges, IsValid, RoutesFit}
 use Rattle.mit_machine.specs.Offers.{all_parts}
@@ -133,7 +133,7 @@ routed plan op valid some = by_kind (is_phi (op_at plan op)) refl
 
 -- the front's operator takes its bags
 front_takes : PathLaws → (machine : Machine) (reports : Reports) (place index : ℕ) → IsValid machine.job.plan → IsPath machine.job.plan machine.history.path → IsFront machine reports place index
-    → (columns : ℕ → ℕ) × (bags : List BagOf) × Takes machine.job machine.history place index columns bags
+    → (columns : ℕ → ℕ) × (bags : List BagOf) × TakesBags machine.job machine.history place index columns bags
 front_takes laws machine reports place index valid is_path front =
     let route = routed machine.job.plan (op_of machine.job.plan machine.history.path place index) valid own.below in
     (route.0, bags.0, record { below = front.entered; stands = front.stands; routed = route.1; stood = stood; takes = bags.1 })
@@ -175,7 +175,7 @@ faulty_part machine reports op place undone heard =
 
 -- that a part which isn't ok is a fault
 abbrev pub FaultLaw : Type 0
-FaultLaw = (job : Job) (history : History) (place index : ℕ) (columns : ℕ → ℕ) (bags : List BagOf) → Explained job history → 0 < job.partitions → Takes job history place index columns bags
+FaultLaw = (job : Job) (history : History) (place index : ℕ) (columns : ℕ → ℕ) (bags : List BagOf) → Explained job history → 0 < job.partitions → TakesBags job history place index columns bags
     → bag_at job history place index ≡ None → IsSome (fault_at job.plan history (pair place index))
 
 pub front_fault : PathLaws → FaultLaw → (machine : Machine) (reports : Reports) (place index : ℕ) → IsValid machine.job.plan → IsPath machine.job.plan machine.history.path

@@ -6,7 +6,7 @@ use Rattle.std.proofs.lemmas.Bool.{and_parts, both_ways, cases_lt, or_cases, or_
 use Rattle.std.proofs.lemmas.List.{append-nil, drop-drop, drop_all, get_or-map, length-map, length-take, take-append-drop, take-take}
 use Rattle.std.proofs.lemmas.List.Elements.{All-drop}
 use Rattle.std.proofs.lemmas.List.Folds.{Any-from_list_any, list_any-append, list_any_at}
-use Rattle.mit_path.specs.Choice.{chosen as chosen_operand}
+use Rattle.mit_path.specs.Choice.{chosen_operand}
 use Rattle.mit_path.specs.Fate.{is_among, is_superseded}
 use Rattle.mit_plan.specs.Chosen.{Choice, chosen, input_edges, input_numbers}
 use Rattle.mit_plan.specs.Plans.{PlanOf, edge_at, is_phi, op_at, source_block}

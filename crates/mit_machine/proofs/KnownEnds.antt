@@ -7,7 +7,7 @@ use Rattle.std.proofs.lemmas.List.Sums.{count_by-le-length}
 use Rattle.mit_ops.specs.declared.leave.Leave.{Leave}
 use Rattle.mit_ops.specs.declared.leave.Leave.TheVariants.{Jump, Branch, End}
 use Rattle.mit_plan.specs.Bound.{most_places}
-use Rattle.mit_plan.specs.Held.{History, Job, Part, decided, decisions_before, failed, follows, held, is_ok, ok, run, void}
+use Rattle.mit_plan.specs.Held.{History, Job, Part, decided_block, decisions_before, failed, follows, held, is_ok, ok, run, void}
 use Rattle.mit_plan.specs.Meant.{last_block}
 use Rattle.mit_plan.specs.Plans.{PlanOf, block_at, no_block}
 use Rattle.mit_plan.specs.Valid.{IsValid, JumpsEnd, is_branch, is_end, last_of}
@@ -76,7 +76,7 @@ all_known machine reports runs done = by_end (known_ends machine reports)
 -- ---- it ends
 
 -- where a part is ok it decides
-decided_some : (part : Part) (on_true on_false : ℕ) → is_ok part ≡ true → decided part on_true on_false ≡ None → ⊥
+decided_some : (part : Part) (on_true on_false : ℕ) → is_ok part ≡ true → decided_block part on_true on_false ≡ None → ⊥
 decided_some (ok bag) on_true on_false is none = cc
 decided_some (failed fault) on_true on_false is none = cc
 decided_some void on_true on_false is none = cc
@@ -96,7 +96,7 @@ stops_at machine path place block (Branch on_true on_false) decides most same st
     by_order (inl left) =
         let e = lt-ltb (decisions_before machine.job.plan machine.history.path place) machine.job.decisions left in
         decided_some (held machine.history place (block.count - 1) 0) on_true on_false (decides refl)
-        (subst (λ (test : Bool). cond test (decided (held machine.history place (block.count - 1) 0) on_true on_false) None ≡ None) e stops)
+        (subst (λ (test : Bool). cond test (decided_block (held machine.history place (block.count - 1) 0) on_true on_false) None ≡ None) e stops)
     by_order (inr all) =
         let e = eq-eqb (decisions_before machine.job.plan path (length path - 1)) machine.job.decisions (omega (arith, same, most, all)) in
         absurd cc

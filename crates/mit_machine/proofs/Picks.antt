@@ -6,7 +6,7 @@ use Rattle.std.proofs.lemmas.List.Elements.{Contains-get_or}
 use Rattle.std.proofs.lemmas.Option.{get_or_from_slice_get, slice_get_within}
 use Rattle.mit_plan.specs.Bound.{most_actions}
 use Rattle.mit_machine.specs.Offers.{offered}
-use Rattle.mit_machine.specs.Runs.{IsValidState, Pick, Runs, after_picks, picked, picked_from, sum_over, total}
+use Rattle.mit_machine.specs.Runs.{IsValidState, Pick, Runs, actions_so_far, after_picks, picked_from, state_after_pick, sum_over}
 use Rattle.mit_machine.specs.State.{Action, Machine, State, after, first_state}
 use Rattle.mit_machine.proofs.Counting.{offered_counts, over_most, total_most}
 use Rattle.mit_machine.proofs.Settling.{FateLaws}
@@ -18,7 +18,7 @@ record ComesOf (machine : Machine) (state next : State) : Type 0 where
   pub is_offered : Contains (offered machine state) action
   pub leads : after action state ≡ next
 
-picked_comes : (machine : Machine) (state next : State) (pick : Pick) → picked machine state pick ≡ Some next → ComesOf machine state next
+picked_comes : (machine : Machine) (state next : State) (pick : Pick) → state_after_pick machine state pick ≡ Some next → ComesOf machine state next
 picked_comes machine state next pick is = by_count (length (offered machine state) == pick.offered) is
   where
     by_action : (found : Option Action) → slice_get (offered machine state) pick.chosen ≡ found → option_map (λ action. after action state) found ≡ Some next → ComesOf machine state next
@@ -42,10 +42,10 @@ unfolding picked_from
 picks_valid laws machine [] state last runs valid is =
     let same : state ≡ last = cc in
     subst (IsValidState machine) same valid
-picks_valid laws machine (pick ∷ later) state last runs valid is = by_next (picks_valid laws machine later) (picked machine state pick) refl is
+picks_valid laws machine (pick ∷ later) state last runs valid is = by_next (picks_valid laws machine later) (state_after_pick machine state pick) refl is
   where
     by_next : ((next end : State) → Runs machine → IsValidState machine next → picked_from machine next later ≡ Some end → IsValidState machine end) → (found : Option State)
-        → picked machine state pick ≡ found → option_and_then (λ next. picked_from machine next later) found ≡ Some last → IsValidState machine last
+        → state_after_pick machine state pick ≡ found → option_and_then (λ next. picked_from machine next later) found ≡ Some last → IsValidState machine last
     by_next rest None there made = absurd cc
     by_next rest (Some next) there made =
         let comes = picked_comes machine state next pick there in
@@ -56,22 +56,22 @@ after_picks_valid laws machine picks state runs is = picks_valid laws machine pi
 
 -- ---- how many picks
 
-picks_count : (machine : Machine) (picks : List Pick) (state last : State) → picked_from machine state picks ≡ Some last → total machine last ≡ total machine state + length picks
+picks_count : (machine : Machine) (picks : List Pick) (state last : State) → picked_from machine state picks ≡ Some last → actions_so_far machine last ≡ actions_so_far machine state + length picks
 unfolding picked_from
 picks_count machine [] state last is =
     let same : state ≡ last = cc in
-    omega (arith, ap (total machine) same)
-picks_count machine (pick ∷ later) state last is = by_next (picks_count machine later) (picked machine state pick) refl is
+    omega (arith, ap (actions_so_far machine) same)
+picks_count machine (pick ∷ later) state last is = by_next (picks_count machine later) (state_after_pick machine state pick) refl is
   where
-    by_next : ((next end : State) → picked_from machine next later ≡ Some end → total machine end ≡ total machine next + length later) → (found : Option State)
-        → picked machine state pick ≡ found → option_and_then (λ next. picked_from machine next later) found ≡ Some last → total machine last ≡ total machine state + length (pick ∷ later)
+    by_next : ((next end : State) → picked_from machine next later ≡ Some end → actions_so_far machine end ≡ actions_so_far machine next + length later) → (found : Option State)
+        → state_after_pick machine state pick ≡ found → option_and_then (λ next. picked_from machine next later) found ≡ Some last → actions_so_far machine last ≡ actions_so_far machine state + length (pick ∷ later)
     by_next rest None there made = absurd cc
     by_next rest (Some next) there made =
         let comes = picked_comes machine state next pick there in
-        omega (arith, rest next last made, ap (total machine) comes.leads, offered_counts machine state comes.action comes.is_offered)
+        omega (arith, rest next last made, ap (actions_so_far machine) comes.leads, offered_counts machine state comes.action comes.is_offered)
 
 -- nothing was done in the first state
-first_total : (machine : Machine) → total machine first_state ≡ 0
+first_total : (machine : Machine) → actions_so_far machine first_state ≡ 0
 first_total machine =
     let parts = machine.job.partitions in
     let none : sum_over (range_with_len 0 parts) (λ part. 0) ≤ 0 = omega (arith, over_most 0 0 parts (λ part. 0) (λ part. omega arith)) in

@@ -10,7 +10,7 @@ use Rattle.mit_ops.specs.declared.leave.Leave.{Leave}
 use Rattle.mit_ops.specs.declared.leave.Leave.TheVariants.{Jump, Branch, End}
 use Rattle.mit_plan.specs.Bound.{most_places}
 use Rattle.mit_plan.specs.Explained.{Explained}
-use Rattle.mit_plan.specs.Held.{History, Job, Part, Run, decided, decisions_before, enters, failed, follows, goes_on, held, ok, run, void}
+use Rattle.mit_plan.specs.Held.{History, Job, Part, Run, decided_block, decisions_before, enters, failed, follows, grown_run, held, ok, run, void}
 use Rattle.mit_plan.specs.Meant.{last_block}
 use Rattle.mit_plan.specs.Paths.{IsPath, next_of}
 use Rattle.mit_plan.specs.Plans.{PlanOf, block_at}
@@ -22,7 +22,7 @@ use Rattle.mit_machine.specs.State.{Machine}
 
 -- ---- what comes next
 
-decided_next : (part : Part) (on_true on_false next : ℕ) → decided part on_true on_false ≡ Some next → Contains (on_true ∷ on_false ∷ []) next
+decided_next : (part : Part) (on_true on_false next : ℕ) → decided_block part on_true on_false ≡ Some next → Contains (on_true ∷ on_false ∷ []) next
 decided_next (ok bag) on_true on_false next is = by_value (truth_in bag) is
   where
     by_value : (value : Bool) → Some (cond value on_true on_false) ≡ Some next → Contains (on_true ∷ on_false ∷ []) next
@@ -36,7 +36,7 @@ follows_next : (job : Job) (history : History) (place : ℕ) (block : PlanBlock)
 follows_next job history place block (Jump one) next is = (0, omega arith, same_Some one next is)
 follows_next job history place block (Branch on_true on_false) next is = by_test (nat_lt (decisions_before job.plan history.path place) job.decisions) is
   where
-    by_test : (test : Bool) → cond test (decided (held history place (block.count - 1) 0) on_true on_false) None ≡ Some next → Contains (on_true ∷ on_false ∷ []) next
+    by_test : (test : Bool) → cond test (decided_block (held history place (block.count - 1) 0) on_true on_false) None ≡ Some next → Contains (on_true ∷ on_false ∷ []) next
     by_test true is = decided_next (held history place (block.count - 1) 0) on_true on_false next is
     by_test false is = absurd cc
 follows_next job history place block End next is = absurd cc
@@ -66,7 +66,7 @@ decision_left job history place used block End next is here most = omega (arith,
 decision_left job history place used block (Branch on_true on_false) next is here most = by_test (nat_lt (decisions_before job.plan history.path place) job.decisions) refl is
   where
     by_test : (test : Bool) → nat_lt (decisions_before job.plan history.path place) job.decisions ≡ test
-        → cond test (decided (held history place (block.count - 1) 0) on_true on_false) None ≡ Some next → used + 1 ≤ job.decisions
+        → cond test (decided_block (held history place (block.count - 1) 0) on_true on_false) None ≡ Some next → used + 1 ≤ job.decisions
     by_test true less is = let h = ltb-true (decisions_before job.plan history.path place) job.decisions less in omega (arith, h, here)
     by_test false less is = absurd cc
 
@@ -114,7 +114,7 @@ longer plan path block starts is leads = record {
         subst (λ (one : ℕ). Contains (next_of (block_at plan one).leave) (get_or (path ++ block ∷ []) (suc place) 0)) (sym here)
         (subst (λ (one : ℕ). Contains (next_of (last_block plan path).leave) one) (sym next) (leads (omega (arith, e))))
 
-goes_on_is : (job : Job) (history : History) (next : Option ℕ) → IsRun job (record { history = history; next = next }) → IsRun job (goes_on job history next)
+goes_on_is : (job : Job) (history : History) (next : Option ℕ) → IsRun job (record { history = history; next = next }) → IsRun job (grown_run job history next)
 goes_on_is job history None is = is
 goes_on_is job history (Some block) is = record {
   starts = λ none. absurd (omega (arith, none, size));
@@ -159,7 +159,7 @@ run_is job zero = record {
 }
 run_is job (suc places) = goes_on_is job (run job places).history (run job places).next (run_is job places)
 
-goes_on_length : (job : Job) (history : History) (next : Option ℕ) → length (goes_on job history next).history.path ≤ length history.path + 1
+goes_on_length : (job : Job) (history : History) (next : Option ℕ) → length (grown_run job history next).history.path ≤ length history.path + 1
 goes_on_length job history None = omega arith
 goes_on_length job history (Some block) = omega (arith, length_push history.path block)
 

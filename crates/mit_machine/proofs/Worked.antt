@@ -20,7 +20,7 @@ use Rattle.mit_plan.specs.declared.plan.PlanBlock.{PlanBlock}
 use Rattle.mit_plan.specs.declared.plan.PlanOp.{PlanOp}
 use Rattle.mit_machine.specs.Offers.{actions_of, number_of, offered, released_in}
 use Rattle.mit_machine.specs.Places.{front_from, heard_by, known, known_from, open_from}
-use Rattle.mit_machine.specs.Runs.{Pick, after_picks, ended, picked_from, total}
+use Rattle.mit_machine.specs.Runs.{Pick, actions_so_far, after_picks, ended, picked_from}
 use Rattle.mit_machine.specs.State.{Machine, State, after, first_state, hear, learn, poll, take_bag}
 
 -- ---- plans
@@ -101,7 +101,7 @@ module _ (read union write : OpSpec) (files : FileMap) (a b c d e f : BagOf) whe
   unfolding known_from front_from open_from numbers_where last_below first_decides
   read_offer = refl
 
-  pub read_total : total machine read_once ≡ 3
+  pub read_total : actions_so_far machine read_once ≡ 3
   read_total = refl
 
   -- the union waits for both of its bags
@@ -139,7 +139,7 @@ module _ (read union write : OpSpec) (files : FileMap) (a b c d e f : BagOf) whe
   unfolding known_from front_from open_from numbers_where last_below first_decides
   done_offer = refl
 
-  pub done_total : total machine done ≡ 20
+  pub done_total : actions_so_far machine done ≡ 20
   done_total = refl
 
   pub done_ends : ended machine done ≡ Some (finished (writes_of machine.job machine.history) 0)

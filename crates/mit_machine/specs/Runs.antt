@@ -31,15 +31,15 @@ pub record Pick : Type 0 where
   pub chosen : ℕ
 
 -- a pick is of the offer of a state
-abbrev pub picked : Machine → State → Pick → Option State
-picked machine state pick =
+abbrev pub state_after_pick : Machine → State → Pick → Option State
+state_after_pick machine state pick =
     if length (offered machine state) == pick.offered
     then option_map (λ action. after action state) (slice_get (offered machine state) pick.chosen)
     else None
 
 unfoldable pub picked_from : Machine → State → List Pick → Option State
 picked_from machine state [] = Some state
-picked_from machine state (pick ∷ later) = option_and_then (λ next. picked_from machine next later) (picked machine state pick)
+picked_from machine state (pick ∷ later) = option_and_then (λ next. picked_from machine next later) (state_after_pick machine state pick)
 
 -- the state after these picks, where each is of the offer at its turn
 abbrev pub after_picks : Machine → List Pick → Option State
@@ -95,8 +95,8 @@ abbrev pub sum_over : List ℕ → (ℕ → ℕ) → ℕ
 sum_over numbers count = sum (map count numbers)
 
 -- the actions so far: the sum of all counters
-abbrev pub total : Machine → State → ℕ
-total machine state =
+abbrev pub actions_so_far : Machine → State → ℕ
+actions_so_far machine state =
     sum_over (all_parts machine) state.seen
     + sum_over (all_ops machine) (λ op. sum_over (all_parts machine) (state.polls op))
     + sum_over (all_ops machine) (λ op. sum_over (all_parts machine) (state.heard op))

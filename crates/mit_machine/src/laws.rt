@@ -10,7 +10,7 @@ ghost use Rattle.mit_machine.specs.Kept.{is_part_kept};
 ghost use Rattle.mit_machine.specs.Moves.{Moves, is_hear, is_learn, is_take};
 ghost use Rattle.mit_machine.specs.Offers.{bags_taken, bags_under_way, blocks_under_way, offered, released_in, reports_under_way};
 ghost use Rattle.mit_machine.specs.Places.{Reports, front, known, own_places, released};
-ghost use Rattle.mit_machine.specs.Runs.{IsValidState, Pick, Runs, after_picks, ended, total};
+ghost use Rattle.mit_machine.specs.Runs.{IsValidState, Pick, Runs, actions_so_far, after_picks, ended};
 ghost use Rattle.mit_machine.specs.State.{Action, Machine, State, after, first_state};
 
 use mit_path::laws::{
@@ -78,9 +78,9 @@ pub fn progress_law()
 /// So no run takes more actions.
 pub fn bound_law()
     ensures one { (machine : Machine) (state : State) (action : Action) → Contains (offered machine state) action
-        → total machine (after action state) ≡ total machine state + 1 }
+        → actions_so_far machine (after action state) ≡ actions_so_far machine state + 1 }
     ensures most { (machine : Machine) (state : State) → Runs machine → IsValidState machine state
-        → total machine state ≤ most_actions machine.job.plan machine.job.decisions machine.job.partitions }
+        → actions_so_far machine state ≤ most_actions machine.job.plan machine.job.decisions machine.job.partitions }
     ensures picks { (machine : Machine) (picks : List Pick) (state : State) → Runs machine
         → after_picks machine picks ≡ Some state
         → length picks ≤ most_actions machine.job.plan machine.job.decisions machine.job.partitions }

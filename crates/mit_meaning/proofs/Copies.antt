@@ -10,7 +10,7 @@ use Rattle.mit_ops.specs.Operators.{captured, whole}
 use Rattle.mit_ops.specs.declared.kinds.OpSpec.TheVariants as op
 use Rattle.mit_plan.specs.Chosen.{Choice, chosen, input_numbers}
 use Rattle.mit_plan.specs.Held.{History, Job, all_there, op_of}
-use Rattle.mit_plan.specs.Sums.{Takes, bag_taken}
+use Rattle.mit_plan.specs.Sums.{TakesBags, bag_taken}
 use Rattle.mit_meaning.proofs.PlanLaws.{PlanLaws}
 
 -- rows that are given one by one
@@ -50,7 +50,7 @@ taken_sorted laws job history (Some choice) bag is =
     summed laws (all_there (map _ (range_with_len 0 job.partitions))) bag is
 
 -- a bag that is taken stands in order
-pub taken_bag : PlanLaws → (job : Job) (history : History) (place index : ℕ) (columns : ℕ → ℕ) (bag : BagOf) → Takes job history place index columns (bag ∷ []) → IsBag bag
+pub taken_bag : PlanLaws → (job : Job) (history : History) (place index : ℕ) (columns : ℕ → ℕ) (bag : BagOf) → TakesBags job history place index columns (bag ∷ []) → IsBag bag
 taken_bag laws job history place index columns bag takes =
     let op_here = op_of job.plan history.path place index in
     let one = first_there (λ input. bag_taken job history (chosen job.plan history.path op_here input place)) (input_numbers job.plan op_here) bag [] takes.takes in

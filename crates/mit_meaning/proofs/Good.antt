@@ -6,7 +6,7 @@ use Rattle.mit_cfg.specs.declared.block.Step.{Step}
 use Rattle.mit_plan.specs.Held.{History, Job, op_of}
 use Rattle.mit_plan.specs.Paths.{next_of}
 use Rattle.mit_plan.specs.Plans.{PlanOf, block_at}
-use Rattle.mit_plan.specs.Sums.{Takes, bag_at}
+use Rattle.mit_plan.specs.Sums.{TakesBags, bag_at}
 use Rattle.mit_plan.specs.Valid.{EdgesGoUp, HasTypes, InputsHaveEdges, LeavesNameBlocks, OperandsApart, RangesFollow, RoutesFit}
 use Rattle.mit_script.specs.Execution.{Store, put}
 use Rattle.mit_ssa.specs.Reaching.{IsPhi, IsStep, Reaches, Reaching, is_for, reaching}
@@ -66,11 +66,11 @@ pub record OneOperator (job : Job) (code : List Code) (known : Reaching) : Type 
   -- a step's operator takes the bags of its arguments
   pub step : (history : History) (place index : ℕ) (store : Store) (step : Step) → IsPair job.plan history.path place index
       → IsStep job.plan known (slice_index history.path place) index step → Good job known history place index store
-      → (columns : ℕ → ℕ) × Takes job history place index columns (map store step.args)
+      → (columns : ℕ → ℕ) × TakesBags job history place index columns (map store step.args)
   -- a phi takes the bag of its variable
   pub phi : (history : History) (place index : ℕ) (store : Store) → IsPair job.plan history.path place index
       → (phi : IsPhi job.plan known (slice_index history.path place) index) → Good job known history place index store
-      → (columns : ℕ → ℕ) × Takes job history place index columns (store phi.variable ∷ [])
+      → (columns : ℕ → ℕ) × TakesBags job history place index columns (store phi.variable ∷ [])
   -- where an operator made its bag
   pub more : (history : History) (place index : ℕ) (store : Store) (bag : BagOf) → IsPair job.plan history.path place index
       → bag_at job history place index ≡ Some bag → Good job known history place index store

@@ -16,7 +16,7 @@ use Rattle.mit_ops.specs.declared.types.VarType.{VarType}
 use Rattle.mit_plan.specs.Chosen.{chosen, chosen_among, input_edges}
 use Rattle.mit_plan.specs.Held.{History, Job, all_there, op_of}
 use Rattle.mit_plan.specs.Plans.{PlanOf, block_at, edge_at, edges_to, inputs_of, is_phi, no_edge, op_at, source_block}
-use Rattle.mit_plan.specs.Sums.{AreRouted, Takes, bag_at, bag_taken}
+use Rattle.mit_plan.specs.Sums.{AreRouted, TakesBags, bag_at, bag_taken}
 use Rattle.mit_plan.specs.Types.{AreTypes, type_at}
 use Rattle.mit_plan.specs.declared.plan.Edge.{Edge}
 use Rattle.mit_plan.specs.Valid.{AreApart, EdgesGoUp, InputsHaveEdges, OperandsApart, RangesFollow, RoutesFit, inputs_wanted, source_blocks}
@@ -178,7 +178,7 @@ argument_taken paths job code known stands history place index store step k pair
 -- a step's operator takes the bags of its arguments
 pub step_takes : PathLaws → (job : Job) (code : List Code) (known : Reaching) → Stands job code known → (history : History) (place index : ℕ) (store : Store) (step : Step)
     → IsPair job.plan history.path place index → IsStep job.plan known (get_or history.path place 0) index step → Good job known history place index store
-    → (columns : ℕ → ℕ) × Takes job history place index columns (map store step.args)
+    → (columns : ℕ → ℕ) × TakesBags job history place index columns (map store step.args)
 step_takes paths job code known stands history place index store step pair is good =
     let op = op_of job.plan history.path place index in
     let types = stands.types in
@@ -275,7 +275,7 @@ variable_taken paths job code known stands history place index store pair is goo
 -- a phi takes the bag of its variable
 pub phi_takes : PathLaws → (job : Job) (code : List Code) (known : Reaching) → Stands job code known → (history : History) (place index : ℕ) (store : Store)
     → IsPair job.plan history.path place index → (is : IsPhi job.plan known (get_or history.path place 0) index) → Good job known history place index store
-    → (columns : ℕ → ℕ) × Takes job history place index columns (store is.variable ∷ [])
+    → (columns : ℕ → ℕ) × TakesBags job history place index columns (store is.variable ∷ [])
 phi_takes paths job code known stands history place index store pair is good =
     let op = op_of job.plan history.path place index in
     let types = stands.types in (

@@ -6,7 +6,7 @@ use Rattle.std.specs.Option.{MatchOption, option_map}
 use Rattle.std.proofs.lemmas.Bool.{cases_lt, cases_order}
 use Rattle.std.proofs.lemmas.List.{get_or-map, length-map}
 use Rattle.std.proofs.lemmas.List.Elements.{All-cons, All-nil}
-use Rattle.mit_path.specs.Choice.{chosen as chosen_operand, operand_of}
+use Rattle.mit_path.specs.Choice.{chosen_operand, operand_of}
 use Rattle.mit_path.specs.Last.{HasNone, IsLast}
 use Rattle.mit_plan.specs.Chosen.{choice_of, chosen_among}
 use Rattle.mit_plan.specs.Held.{History, Job, op_of}

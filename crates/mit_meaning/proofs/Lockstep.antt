@@ -12,13 +12,13 @@ use Rattle.mit_ops.specs.declared.faults.FaultKind.TheVariants.{DecisionLimit}
 use Rattle.mit_ops.specs.declared.faults.ScriptFault.{ScriptFault}
 use Rattle.mit_ops.specs.declared.leave.Leave.{Leave}
 use Rattle.mit_ops.specs.declared.leave.Leave.TheVariants.{Jump, Branch, End}
-use Rattle.mit_script.specs.Execution.{State, start}
-use Rattle.mit_cfg.specs.Walk.{Place, Reached, before, block_at as code_at, decided as decided_by, does, leaves, next_place, over, through, walk, walk_from}
-use Rattle.mit_cfg.specs.Walk.{entered as entered_with}
+use Rattle.mit_script.specs.Execution.{ScriptState, start}
+use Rattle.mit_cfg.specs.Walk.{Place, Reached, at_ending, before, decided, does, leaves, next_place, numbered_block, through, walk, walk_from}
+use Rattle.mit_cfg.specs.Walk.{entered}
 use Rattle.mit_cfg.specs.declared.block.Block.{Block as Code}
 use Rattle.mit_plan.specs.Explained.{Explained}
-use Rattle.mit_plan.specs.Held.{History, Job, Part, Run, all_there, bag_in, decided, decisions_before, enters, follows, goes_on, held, ok, rows, run, void}
-use Rattle.mit_plan.specs.Meant.{at_end, ending_of, fault_at, faults_of, first_or, last_block, pairs_at, write_at, writes_of}
+use Rattle.mit_plan.specs.Held.{History, Job, Part, Run, all_there, bag_in, decided_block, decisions_before, enters, follows, grown_run, held, ok, rows, run, void}
+use Rattle.mit_plan.specs.Meant.{at_end, fault_at, faults_of, first_or, history_ending, last_block, pairs_at, write_at, writes_of}
 use Rattle.mit_plan.specs.Paths.{next_of}
 use Rattle.mit_plan.specs.Plans.{PlanOf, block_at, op_at}
 use Rattle.mit_plan.specs.Sums.{bag_at}
@@ -67,7 +67,7 @@ pub record Compared (job : Job) (code : List Code) (known : Reaching) : Type 0 w
   pub one : OneOperator job code known
 
 -- both are before a block
-pub record Going (job : Job) (code : List Code) (known : Reaching) (state : Run) (block : ℕ) (walked : State) : Type 0 where
+pub record Going (job : Job) (code : List Code) (known : Reaching) (state : Run) (block : ℕ) (walked : ScriptState) : Type 0 where
   pub next : state.next ≡ Some block
   pub within : block < length code
   pub quiet : faults_of job state.history ≡ []
@@ -85,25 +85,25 @@ FaultIsFirst job history fault = (later : List ScriptFault) × (faults_of job hi
 
 -- the run has stopped, or it goes on behind a fault
 pub record Over (job : Job) (state : Run) (ending : Ending) : Type 0 where
-  pub ends : ending_of job state.history ≡ ending
+  pub ends : history_ending job state.history ≡ ending
   pub stays : (state.next ≡ None) ⊎ ((fault : ScriptFault) × FaultIsFirst job state.history fault)
 
 -- both have come to the same
 abbrev pub InStep : Job → List Code → Reaching → Run → Place → Type 0
 InStep job code known state (before block walked) = Going job code known state block walked
-InStep job code known state (over ending) = Over job state ending
+InStep job code known state (at_ending ending) = Over job state ending
 
 -- ---- once it is over
 
 -- then it is the ending
-first_ends : (job : Job) (history : History) (fault : ScriptFault) → FaultIsFirst job history fault → ending_of job history ≡ stopped fault
+first_ends : (job : Job) (history : History) (fault : ScriptFault) → FaultIsFirst job history fault → history_ending job history ≡ stopped fault
 first_ends job history fault first =
     let last = last_block job.plan history.path in
     ap (λ (faults : List ScriptFault). first_or faults (at_end job history last last.leave)) first.1
 
 -- and it stays the first one, however the path goes on
 first_stays : PlanLaws → (job : Job) (history : History) (next : Option ℕ) (fault : ScriptFault) → length history.parts ≡ length history.path
-    → FaultIsFirst job history fault → FaultIsFirst job (goes_on job history next).history fault
+    → FaultIsFirst job history fault → FaultIsFirst job (grown_run job history next).history fault
 first_stays laws job history None fault even first = first
 first_stays laws job history (Some block) fault even first =
     let after = enters job history block in
@@ -111,15 +111,15 @@ first_stays laws job history (Some block) fault even first =
     (first.0 ++ more, laws.faults job history block even ∙ ap (λ (faults : List ScriptFault). faults ++ more) first.1)
 
 -- with one place more the ending stays
-over_on : PlanLaws → (job : Job) (state : Run) (ending : Ending) → length state.history.parts ≡ length state.history.path → Over job state ending → Over job (goes_on job state.history state.next) ending
+over_on : PlanLaws → (job : Job) (state : Run) (ending : Ending) → length state.history.parts ≡ length state.history.path → Over job state ending → Over job (grown_run job state.history state.next) ending
 over_on laws job state ending even is = by_way is.stays
   where
-    by_way : (state.next ≡ None) ⊎ ((fault : ScriptFault) × FaultIsFirst job state.history fault) → Over job (goes_on job state.history state.next) ending
-    by_way (inl none) = subst (λ (next : Option ℕ). Over job (goes_on job state.history next) ending) (sym none) (record { ends = is.ends; stays = inl refl })
+    by_way : (state.next ≡ None) ⊎ ((fault : ScriptFault) × FaultIsFirst job state.history fault) → Over job (grown_run job state.history state.next) ending
+    by_way (inl none) = subst (λ (next : Option ℕ). Over job (grown_run job state.history next) ending) (sym none) (record { ends = is.ends; stays = inl refl })
     by_way (inr fault) =
         let first = first_stays laws job state.history state.next fault.0 even fault.1 in
         record {
-          ends = first_ends job (goes_on job state.history state.next).history fault.0 first ∙ sym (first_ends job state.history fault.0 fault.1) ∙ is.ends;
+          ends = first_ends job (grown_run job state.history state.next).history fault.0 first ∙ sym (first_ends job state.history fault.0 fault.1) ∙ is.ends;
           stays = inr (fault.0, first);
         }
 
@@ -143,7 +143,7 @@ abbrev pub run_left : Job → History → ℕ → ℕ → Leave → Run
 run_left job after place block leave = record { history = after; next = follows job after place (block_at job.plan block) leave }
 
 -- the state with other counts of decisions
-abbrev with_counts : Reached → ℕ → ℕ → State
+abbrev with_counts : Reached → ℕ → ℕ → ScriptState
 with_counts reached used left = record reached.state { used = used; left = left }
 
 -- to a next block
@@ -166,7 +166,7 @@ going_on job code known after place block reached leave next used left is same l
 
 -- an ending without a fault
 ends_so : (job : Job) (code : List Code) (known : Reaching) (after : History) (place block : ℕ) (reached : Reached) (leave : Leave)
-    → Left job code known after place block reached → (block_at job.plan block).leave ≡ leave → ending_of job after ≡ at_end job after (block_at job.plan block) leave
+    → Left job code known after place block reached → (block_at job.plan block).leave ≡ leave → history_ending job after ≡ at_end job after (block_at job.plan block) leave
 ends_so job code known after place block reached leave is same =
     let last = last_block job.plan after.path in
     let e : length after.path - 1 ≡ place = let size = is.size in omega arith in
@@ -193,7 +193,7 @@ left_at_end job code known after place block reached is same =
 left_at_branch : (job : Job) (code : List Code) (known : Reaching) (after : History) (place block : ℕ) (reached : Reached) (on_true on_false left : ℕ)
     → Left job code known after place block reached → (block_at job.plan block).leave ≡ Branch on_true on_false → on_true < length code → on_false < length code
     → reached.state.left ≡ left → LastDecides job after place reached
-    → InStep job code known (run_left job after place block (Branch on_true on_false)) (decided_by reached left on_true on_false)
+    → InStep job code known (run_left job after place block (Branch on_true on_false)) (decided reached left on_true on_false)
 left_at_branch job code known after place block reached on_true on_false zero is same within other none decides =
     let sum = is.sum in
     let all : reached.state.used ≡ job.decisions = omega (arith, sum, none) in
@@ -201,7 +201,7 @@ left_at_branch job code known after place block reached on_true on_false zero is
     let test : nat_lt (decisions_before job.plan after.path place) job.decisions ≡ false = le-ltb (decisions_before job.plan after.path place) job.decisions (omega (arith, used, all)) in
     let statement : (op_at job.plan (last_of (block_at job.plan block))).statement ≡ reached.statement =
     ap (λ (b : ℕ). (op_at job.plan (last_of (block_at job.plan b))).statement) (sym is.own) ∙ decides.statement in
-    subst (λ (some : Bool). Over job (record { history = after; next = cond some (decided (held after place ((block_at job.plan block).count - 1) 0) on_true on_false) None })
+    subst (λ (some : Bool). Over job (record { history = after; next = cond some (decided_block (held after place ((block_at job.plan block).count - 1) 0) on_true on_false) None })
     (stopped (record { statement = reached.statement; decisions = reached.state.used; kind = DecisionLimit }))) (sym test)
     (record {
       ends = ends_so job code known after place block reached (Branch on_true on_false) is same
@@ -215,10 +215,10 @@ left_at_branch job code known after place block reached on_true on_false (suc le
     let test : nat_lt (decisions_before job.plan after.path place) job.decisions ≡ true = lt-ltb (decisions_before job.plan after.path place) job.decisions (omega (arith, used, sum, some)) in
     let part : held after place ((block_at job.plan block).count - 1) 0 ≡ ok reached.bag =
     ap (λ (b : ℕ). held after place ((block_at job.plan b).count - 1) 0) (sym is.own) ∙ decides.part in
-    subst (λ (some : Bool). InStep job code known (record { history = after; next = cond some (decided (held after place ((block_at job.plan block).count - 1) 0) on_true on_false) None })
-    (decided_by reached (suc left) on_true on_false)) (sym test)
-    (subst (λ (some : Part). InStep job code known (record { history = after; next = decided some on_true on_false })
-    (decided_by reached (suc left) on_true on_false)) (sym part) (by_truth (truth_in reached.bag)))
+    subst (λ (some : Bool). InStep job code known (record { history = after; next = cond some (decided_block (held after place ((block_at job.plan block).count - 1) 0) on_true on_false) None })
+    (decided reached (suc left) on_true on_false)) (sym test)
+    (subst (λ (some : Part). InStep job code known (record { history = after; next = decided_block some on_true on_false })
+    (decided reached (suc left) on_true on_false)) (sym part) (by_truth (truth_in reached.bag)))
   where
     more : reached.state.used + 1 + left ≡ job.decisions
     more = let sum = is.sum in omega (arith, sum, some)
@@ -247,15 +247,15 @@ left_in_step job code known after place block reached End is same named =
 -- ---- a block is run
 
 -- what is known of a history after a block is entered
-record EnteredBlock (job : Job) (code : List Code) (known : Reaching) (history : History) (block : ℕ) (walked : State) : Type 0 where
+record EnteredBlock (job : Job) (code : List Code) (known : Reaching) (history : History) (block : ℕ) (walked : ScriptState) : Type 0 where
   size : length (history.path ++ block ∷ []) ≡ suc (length history.path)
   own : get_or (history.path ++ block ∷ []) (length history.path) 0 ≡ block
   placed : PlaceFacts job code known (enters job history block) (length history.path)
   used : decisions_before job.plan (history.path ++ block ∷ []) (length history.path) ≡ walked.used
   good : Good job known (enters job history block) (length history.path) 0 walked.store
-  is : IsBlockOf job.plan known (get_or (history.path ++ block ∷ []) (length history.path) 0) (code_at code block)
+  is : IsBlockOf job.plan known (get_or (history.path ++ block ∷ []) (length history.path) 0) (numbered_block code block)
 
-entered_is : (job : Job) (code : List Code) (known : Reaching) (history : History) (block : ℕ) (walked : State) → Compared job code known
+entered_is : (job : Job) (code : List Code) (known : Reaching) (history : History) (block : ℕ) (walked : ScriptState) → Compared job code known
     → length history.parts ≡ length history.path → Explained job (enters job history block)
     → Going job code known (record { history = history; next = Some block }) block walked → EnteredBlock job code known history block walked
 entered_is job code known history block walked compared even explained going = record {
@@ -264,7 +264,7 @@ entered_is job code known history block walked compared even explained going = r
   placed = record { some = compared.stands.some; one = compared.one; explained = explained; below = omega (arith, size) };
   used = taken_before job.plan history.path block ∙ going.used;
   good = going.good (enters job history block) refl (λ other at below. bag_stays job history block other at even below);
-  is = subst (λ (b : ℕ). IsBlockOf job.plan known b (code_at code block)) (sym own) (compared.stands.reaches.blocks block going.within);
+  is = subst (λ (b : ℕ). IsBlockOf job.plan known b (numbered_block code block)) (sym own) (compared.stands.reaches.blocks block going.within);
 }
   where
     size : length (history.path ++ block ∷ []) ≡ suc (length history.path)
@@ -274,18 +274,18 @@ entered_is job code known history block walked compared even explained going = r
     own = get_or_push history.path block 0 (length history.path) refl
 
 -- its operators come to what its steps come to
-entered_comes : (job : Job) (code : List Code) (known : Reaching) (history : History) (block : ℕ) (walked : State) → Compared job code known
+entered_comes : (job : Job) (code : List Code) (known : Reaching) (history : History) (block : ℕ) (walked : ScriptState) → Compared job code known
     → EnteredBlock job code known history block walked
     → Comes job known (enters job history block) (length history.path) 0 (count_there job (enters job history block) (length history.path)) walked
-    (does job.files (code_at code block).steps (entered_with walked))
+    (does job.files (numbered_block code block).steps (entered walked))
 entered_comes job code known history block walked compared is =
-    block_comes compared.laws job code known (enters job history block) (length history.path) (code_at code block) walked is.placed is.is is.good is.used
+    block_comes compared.laws job code known (enters job history block) (length history.path) (numbered_block code block) walked is.placed is.is is.good is.used
 
 -- a fault there is the first one
-fault_first : (job : Job) (code : List Code) (known : Reaching) (history : History) (block : ℕ) (walked : State) (fault : ScriptFault) → Compared job code known
+fault_first : (job : Job) (code : List Code) (known : Reaching) (history : History) (block : ℕ) (walked : ScriptState) (fault : ScriptFault) → Compared job code known
     → length history.parts ≡ length history.path → Going job code known (record { history = history; next = Some block }) block walked
     → Comes job known (enters job history block) (length history.path) 0 (count_there job (enters job history block) (length history.path)) walked (Err fault)
-    → Over job (goes_on job history (Some block)) (stopped fault)
+    → Over job (grown_run job history (Some block)) (stopped fault)
 fault_first job code known history block walked fault compared even going comes =
     let after = enters job history block in
     let first : FaultIsFirst job after fault = (
@@ -297,7 +297,7 @@ fault_first job code known history block walked fault compared even going comes 
     record { ends = first_ends job after fault first; stays = inr (fault, first) }
 
 -- without one the block is left
-block_left : (job : Job) (code : List Code) (known : Reaching) (history : History) (block : ℕ) (walked : State) (reached : Reached) → Compared job code known
+block_left : (job : Job) (code : List Code) (known : Reaching) (history : History) (block : ℕ) (walked : ScriptState) (reached : Reached) → Compared job code known
     → length history.parts ≡ length history.path → Going job code known (record { history = history; next = Some block }) block walked
     → EnteredBlock job code known history block walked
     → Ran job known (enters job history block) (length history.path) 0 (count_there job (enters job history block) (length history.path)) walked reached
@@ -324,23 +324,23 @@ block_left job code known history block walked reached compared even going is ra
           ∙ ap (λ (n : ℕ). n + cond (is_branch (block_at job.plan block).leave) 1 0) (going.used ∙ sym ran.used);
       sum = omega (arith, sum, used, left);
       good = subst (λ (k : ℕ). Good job known after place k reached.state.store) z ran.good;
-      decides = λ branch. block_decides job known after place (code_at code block) reached is.is
+      decides = λ branch. block_decides job known after place (numbered_block code block) reached is.is
           (is.is.decided (ap is_branch (sym (compared.stands.reaches.blocks block going.within).leave) ∙ branch))
           (subst (λ (k : ℕ). Behind job after place k reached) z ran.last);
     }
 
 -- both have come to the same behind a block
-block_in_step : (job : Job) (code : List Code) (known : Reaching) (history : History) (block : ℕ) (walked : State) → Compared job code known
+block_in_step : (job : Job) (code : List Code) (known : Reaching) (history : History) (block : ℕ) (walked : ScriptState) → Compared job code known
     → length history.parts ≡ length history.path → Explained job (enters job history block)
     → Going job code known (record { history = history; next = Some block }) block walked
-    → InStep job code known (goes_on job history (Some block)) (through job.files (code_at code block) (entered_with walked))
+    → InStep job code known (grown_run job history (Some block)) (through job.files (numbered_block code block) (entered walked))
 block_in_step job code known history block walked compared even explained going =
-    by_result (does job.files (code_at code block).steps (entered_with walked)) (entered_comes job code known history block walked compared is)
+    by_result (does job.files (numbered_block code block).steps (entered walked)) (entered_comes job code known history block walked compared is)
   where
     is : EnteredBlock job code known history block walked
     is = entered_is job code known history block walked compared even explained going
 
-    own : (block_at job.plan block).leave ≡ (code_at code block).leave
+    own : (block_at job.plan block).leave ≡ (numbered_block code block).leave
     own = (compared.stands.reaches.blocks block going.within).leave
 
     many : length job.plan.blocks ≡ length code
@@ -351,10 +351,10 @@ block_in_step job code known history block walked compared even explained going 
 
     by_result : (result : Result Reached ScriptFault)
         → Comes job known (enters job history block) (length history.path) 0 (count_there job (enters job history block) (length history.path)) walked result
-        → InStep job code known (goes_on job history (Some block)) (leaves result (code_at code block).leave)
+        → InStep job code known (grown_run job history (Some block)) (leaves result (numbered_block code block).leave)
     by_result (Err fault) comes = fault_first job code known history block walked fault compared even going comes
     by_result (Ok reached) ran =
-        subst (λ (leave : Leave). InStep job code known (goes_on job history (Some block)) (leaves (Ok reached) leave)) own
+        subst (λ (leave : Leave). InStep job code known (grown_run job history (Some block)) (leaves (Ok reached) leave)) own
         (left_in_step job code known (enters job history block) (length history.path) block reached (block_at job.plan block).leave
         (block_left job code known history block walked reached compared even going is ran) refl named)
 
@@ -362,13 +362,13 @@ block_in_step job code known history block walked compared even explained going 
 
 -- and behind one more place
 next_in_step : (job : Job) (code : List Code) (known : Reaching) (state : Run) (place : Place) → Compared job code known
-    → length state.history.parts ≡ length state.history.path → Explained job (goes_on job state.history state.next).history
-    → InStep job code known state place → InStep job code known (goes_on job state.history state.next) (next_place code job.files place)
-next_in_step job code known state (over ending) compared even explained is = over_on compared.laws job state ending even is
+    → length state.history.parts ≡ length state.history.path → Explained job (grown_run job state.history state.next).history
+    → InStep job code known state place → InStep job code known (grown_run job state.history state.next) (next_place code job.files place)
+next_in_step job code known state (at_ending ending) compared even explained is = over_on compared.laws job state ending even is
 next_in_step job code known state (before block walked) compared even explained going =
-    subst (λ (next : Option ℕ). InStep job code known (goes_on job state.history next) (through job.files (code_at code block) (entered_with walked))) (sym going.next)
+    subst (λ (next : Option ℕ). InStep job code known (grown_run job state.history next) (through job.files (numbered_block code block) (entered walked))) (sym going.next)
     (block_in_step job code known state.history block walked compared even
-    (subst (λ (next : Option ℕ). Explained job (goes_on job state.history next).history) going.next explained)
+    (subst (λ (next : Option ℕ). Explained job (grown_run job state.history next).history) going.next explained)
     (record { next = refl; within = going.within; quiet = going.quiet; writes = going.writes; used = going.used; sum = going.sum; good = going.good }))
 
 -- after as many places both have come to the same

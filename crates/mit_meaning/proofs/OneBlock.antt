@@ -11,16 +11,16 @@ use Rattle.mit_ops.specs.declared.faults.OpFault.{OpFault}
 use Rattle.mit_ops.specs.declared.faults.ScriptFault.{ScriptFault}
 use Rattle.mit_ops.specs.declared.kinds.OpSpec.{OpSpec}
 use Rattle.mit_ops.specs.declared.kinds.OpSpec.TheVariants as op
-use Rattle.mit_script.specs.Execution.{State}
+use Rattle.mit_script.specs.Execution.{ScriptState}
 use Rattle.mit_script.specs.Trees.{is_scalar, is_write}
-use Rattle.mit_cfg.specs.Walk.{Reached, after_step, does, entered, kept, with_bag}
+use Rattle.mit_cfg.specs.Walk.{Reached, after_step, does, entered, state_with_bag, with_step_bag}
 use Rattle.mit_cfg.specs.declared.block.Block.{Block as Code}
 use Rattle.mit_cfg.specs.declared.block.Step.{Step}
 use Rattle.mit_plan.specs.Explained.{Explained}
-use Rattle.mit_plan.specs.Held.{History, Job, Part, decisions_before, held, lists_of, ok, op_of, part_of}
+use Rattle.mit_plan.specs.Held.{History, Job, Part, as_part, decisions_before, held, lists_of, ok, op_of}
 use Rattle.mit_plan.specs.Meant.{Pair, fault_at, fault_in, made, pair, write_at, write_of}
 use Rattle.mit_plan.specs.Plans.{block_at, is_phi, op_at}
-use Rattle.mit_plan.specs.Sums.{Takes, bag_at, spec_at}
+use Rattle.mit_plan.specs.Sums.{TakesBags, bag_at, spec_at}
 use Rattle.mit_plan.specs.Valid.{last_of}
 use Rattle.mit_plan.specs.declared.plan.PlanOp.{PlanOp}
 use Rattle.mit_meaning.proofs.Good.{Good, IsPair, OneOperator, stored}
@@ -71,11 +71,11 @@ write_none job history place index plain =
 
 -- an operator writes its bag, where it has a name
 write_there : PlanLaws → (job : Job) (code : List Code) (known : Reaching) (history : History) (place index : ℕ) (columns : ℕ → ℕ) (bags : List BagOf) (bag : BagOf) (spec : OpSpec)
-    → PlaceFacts job code known history place → Takes job history place index columns bags → spec_at job history place index ≡ spec → whole spec bags job.files ≡ Ok bag
+    → PlaceFacts job code known history place → TakesBags job history place index columns bags → spec_at job history place index ≡ spec → whole spec bags job.files ≡ Ok bag
     → write_at job history (pair place index) ≡ write_of (name_written spec bags) (ok bag)
 write_there laws job code known history place index columns bags bag (op.Write name) placed takes is made =
     laws.write job history place index columns bags name placed.explained placed.some takes is
-    ∙ ap (λ (answer : BagOrFault). write_of (name_written (op.Write name) bags) (part_of answer)) made
+    ∙ ap (λ (answer : BagOrFault). write_of (name_written (op.Write name) bags) (as_part answer)) made
 write_there laws job code known history place index columns bags bag other placed takes is made =
     write_none job history place index (ap is_write is)
 
@@ -97,7 +97,7 @@ Behind job history place index reached = (before : ℕ) → index ≡ suc before
     → (held history place before 0 ≡ ok reached.bag) × ((op_there job history place before).statement ≡ reached.statement)
 
 -- so many operators from an index on did what leads from a state to what was reached
-pub record Ran (job : Job) (known : Reaching) (history : History) (place index many : ℕ) (state : State) (reached : Reached) : Type 0 where
+pub record Ran (job : Job) (known : Reaching) (history : History) (place index many : ℕ) (state : ScriptState) (reached : Reached) : Type 0 where
   pub quiet : found_in (fault_at job.plan history) place index many ≡ []
   pub writes : reached.state.writes ≡ state.writes ++ found_in (write_at job history) place index many
   pub used : reached.state.used ≡ state.used
@@ -106,12 +106,12 @@ pub record Ran (job : Job) (known : Reaching) (history : History) (place index m
   pub last : Behind job history place (index + many) reached
 
 -- or their first fault is the one that was met
-abbrev pub Comes : Job → Reaching → History → ℕ → ℕ → ℕ → State → Result Reached ScriptFault → Type 0
+abbrev pub Comes : Job → Reaching → History → ℕ → ℕ → ℕ → ScriptState → Result Reached ScriptFault → Type 0
 Comes job known history place index many state (Ok reached) = Ran job known history place index many state reached
 Comes job known history place index many state (Err fault) = (later : List ScriptFault) × (found_in (fault_at job.plan history) place index many ≡ fault ∷ later)
 
 -- one operator without a fault, and those behind it
-pub comes_on : (job : Job) (known : Reaching) (history : History) (place index many : ℕ) (state after : State) (wrote : List Write) (result : Result Reached ScriptFault)
+pub comes_on : (job : Job) (known : Reaching) (history : History) (place index many : ℕ) (state after : ScriptState) (wrote : List Write) (result : Result Reached ScriptFault)
     → fault_at job.plan history (pair place index) ≡ None → ((later : List Write) → cons_option (write_at job history (pair place index)) later ≡ wrote ++ later)
     → after.writes ≡ state.writes ++ wrote → after.used ≡ state.used → after.left ≡ state.left
     → Comes job known history place (suc index) many after result → Comes job known history place index (suc many) state result
@@ -140,7 +140,7 @@ comes_on job known history place index many state after wrote (Ok reached) none 
 -- ---- phis
 
 -- a phi gives the bag of its variable, and the store stays
-phi_comes : PlanLaws → (job : Job) (code : List Code) (known : Reaching) (history : History) (place index many : ℕ) (state : State) (result : Result Reached ScriptFault)
+phi_comes : PlanLaws → (job : Job) (code : List Code) (known : Reaching) (history : History) (place index many : ℕ) (state : ScriptState) (result : Result Reached ScriptFault)
     → PlaceFacts job code known history place → index < count_there job history place → IsPhi job.plan known (block_there job history place) index
     → Good job known history place index state.store
     → (Good job known history place (suc index) state.store → Comes job known history place (suc index) many state result)
@@ -161,7 +161,7 @@ phi_comes laws job code known history place index many state result placed stand
     (later (placed.one.kept history place index state.store standing phi there good))
 
 -- phis in a row, and what comes behind them
-phis_come : PlanLaws → (job : Job) (code : List Code) (known : Reaching) (history : History) (place index phis many : ℕ) (state : State) (result : Result Reached ScriptFault)
+phis_come : PlanLaws → (job : Job) (code : List Code) (known : Reaching) (history : History) (place index phis many : ℕ) (state : ScriptState) (result : Result Reached ScriptFault)
     → PlaceFacts job code known history place → index + phis ≤ count_there job history place
     → ((k : ℕ) → k < phis → IsPhi job.plan known (block_there job history place) (index + k))
     → Good job known history place index state.store
@@ -192,22 +192,22 @@ added_write (Some target) name bag = []
 added_write None (Some name) bag = record { name = name; bag = bag } ∷ []
 added_write None None bag = []
 
-kept_writes : (target : Option ℕ) (name : Option (List ℕ)) (state : State) (bag : BagOf) → (kept target name state bag).writes ≡ state.writes ++ added_write target name bag
+kept_writes : (target : Option ℕ) (name : Option (List ℕ)) (state : ScriptState) (bag : BagOf) → (state_with_bag target name state bag).writes ≡ state.writes ++ added_write target name bag
 kept_writes (Some target) name state bag = sym (append-nil state.writes)
 kept_writes None (Some name) state bag = refl
 kept_writes None None state bag = sym (append-nil state.writes)
 
-kept_store : (target : Option ℕ) (name : Option (List ℕ)) (state : State) (bag : BagOf) → (kept target name state bag).store ≡ stored target bag state.store
+kept_store : (target : Option ℕ) (name : Option (List ℕ)) (state : ScriptState) (bag : BagOf) → (state_with_bag target name state bag).store ≡ stored target bag state.store
 kept_store (Some target) name state bag = refl
 kept_store None (Some name) state bag = refl
 kept_store None None state bag = refl
 
-kept_used : (target : Option ℕ) (name : Option (List ℕ)) (state : State) (bag : BagOf) → (kept target name state bag).used ≡ state.used
+kept_used : (target : Option ℕ) (name : Option (List ℕ)) (state : ScriptState) (bag : BagOf) → (state_with_bag target name state bag).used ≡ state.used
 kept_used (Some target) name state bag = refl
 kept_used None (Some name) state bag = refl
 kept_used None None state bag = refl
 
-kept_left : (target : Option ℕ) (name : Option (List ℕ)) (state : State) (bag : BagOf) → (kept target name state bag).left ≡ state.left
+kept_left : (target : Option ℕ) (name : Option (List ℕ)) (state : ScriptState) (bag : BagOf) → (state_with_bag target name state bag).left ≡ state.left
 kept_left (Some target) name state bag = refl
 kept_left None (Some name) state bag = refl
 kept_left None None state bag = refl
@@ -222,14 +222,14 @@ kept_write None None bag later plain = refl
 
 -- a scalar is the part in partition 0
 scalar_is : PlanLaws → (job : Job) (code : List Code) (known : Reaching) (history : History) (place index : ℕ) (columns : ℕ → ℕ) (bags : List BagOf) (bag : BagOf) (spec : OpSpec)
-    → PlaceFacts job code known history place → Takes job history place index columns bags → spec_at job history place index ≡ spec → whole spec bags job.files ≡ Ok bag
+    → PlaceFacts job code known history place → TakesBags job history place index columns bags → spec_at job history place index ≡ spec → whole spec bags job.files ≡ Ok bag
     → is_scalar spec ≡ true → held history place index 0 ≡ ok bag
 scalar_is laws job code known history place index columns bags bag (op.Scalar expr) placed takes is made scalar =
-    laws.decides job history place index columns bags expr placed.explained placed.some takes is ∙ ap part_of made
+    laws.decides job history place index columns bags expr placed.explained placed.some takes is ∙ ap as_part made
 scalar_is laws job code known history place index columns bags bag other placed takes is made scalar = absurd cc
 
 -- the operator of a step that gives a bag
-bag_comes : PlanLaws → (job : Job) (code : List Code) (known : Reaching) (history : History) (place index many : ℕ) (step : Step) (state : State) (bag : BagOf) (result : Result Reached ScriptFault)
+bag_comes : PlanLaws → (job : Job) (code : List Code) (known : Reaching) (history : History) (place index many : ℕ) (step : Step) (state : ScriptState) (bag : BagOf) (result : Result Reached ScriptFault)
     → PlaceFacts job code known history place → index < count_there job history place → IsStep job.plan known (block_there job history place) index step
     → Good job known history place index state.store → whole step.op (map state.store step.args) job.files ≡ Ok bag
     → (Good job known history place (suc index) (after_step step state bag).state.store → Behind job history place (suc index) (after_step step state bag)
@@ -268,7 +268,7 @@ bag_comes laws job code known history place index many step state bag result pla
         )
 
 -- the operator of a step that is at fault
-fault_comes : PlanLaws → (job : Job) (code : List Code) (known : Reaching) (history : History) (place index many : ℕ) (step : Step) (state : State) (fault : OpFault)
+fault_comes : PlanLaws → (job : Job) (code : List Code) (known : Reaching) (history : History) (place index many : ℕ) (step : Step) (state : ScriptState) (fault : OpFault)
     → PlaceFacts job code known history place → index < count_there job history place → IsStep job.plan known (block_there job history place) index step
     → Good job known history place index state.store → decisions_before job.plan history.path place ≡ state.used
     → whole step.op (map state.store step.args) job.files ≡ Err fault
@@ -320,7 +320,7 @@ steps_come laws job code known history place index (step ∷ steps) reached plac
         → ((bag : BagOf) → Good job known history place (suc index) (after_step step reached.state bag).state.store → Behind job history place (suc index) (after_step step reached.state bag)
         → Comes job known history place (suc index) (length steps) (after_step step reached.state bag).state (does job.files steps (after_step step reached.state bag)))
         → Comes job known history place index (suc (length steps)) reached.state
-        (with_bag step reached.state answer (λ bag. does job.files steps (after_step step reached.state bag)))
+        (with_step_bag step reached.state answer (λ bag. does job.files steps (after_step step reached.state bag)))
     by_answer (Ok bag) gives later =
         bag_comes laws job code known history place index (length steps) step reached.state bag (does job.files steps (after_step step reached.state bag)) placed (omega (arith, stands)) is good gives (later bag)
     by_answer (Err fault) gives later =
@@ -329,7 +329,7 @@ steps_come laws job code known history place index (step ∷ steps) reached plac
 -- ---- a whole block
 
 -- the operators of a place come to what the steps of its block come to
-pub block_comes : PlanLaws → (job : Job) (code : List Code) (known : Reaching) (history : History) (place : ℕ) (block : Code) (state : State)
+pub block_comes : PlanLaws → (job : Job) (code : List Code) (known : Reaching) (history : History) (place : ℕ) (block : Code) (state : ScriptState)
     → PlaceFacts job code known history place → IsBlockOf job.plan known (block_there job history place) block
     → Good job known history place 0 state.store → decisions_before job.plan history.path place ≡ state.used
     → Comes job known history place 0 (count_there job history place) state (does job.files block.steps (entered state))

@@ -10,7 +10,7 @@ use Rattle.mit_script.specs.Reading.{Reading, after_next, begins_statement, chai
 use Rattle.mit_script.specs.declared.tree.Stmt.{Stmt}
 use Rattle.mit_parse.specs.declared.stop.Stop.{Stop}
 use Rattle.mit_parse.specs.declared.stop.Stop.TheVariants as stop
-use Rattle.mit_parse.specs.Gives.{Stops}
+use Rattle.mit_parse.specs.Gives.{StopsReading}
 
 -- one item more at the end of those before
 regroup : {A : Type 0} (front : List A) (x : A) (read : Reading (List A)) → with_front front (with_front (x ∷ []) read) ≡ with_front (front ++ x ∷ []) read
@@ -39,7 +39,7 @@ listed_ends item front turns i tokens x after total lt h comma so_far =
     sym so_far ∙ one
 
 pub listed_stops : {A : Type 0} (e : Stop) (item : Kinds → Reading A) (front : List A) (turns i : ℕ) (tokens : Kinds) (total : Reading (List A))
-    → i < turns → Stops e (item tokens) → with_front front (listed item (turns - i) tokens) ≡ total → Stops e total
+    → i < turns → StopsReading e (item tokens) → with_front front (listed item (turns - i) tokens) ≡ total → StopsReading e total
 unfolding listed
 listed_stops stop.NoMemory item front turns i tokens total lt h so_far = tt
 listed_stops (stop.Refused rest) item front turns i tokens total lt h so_far =
@@ -75,8 +75,8 @@ chain_ends operand rank turns i left tokens total lt found so_far =
     sym so_far ∙ one
 
 pub chain_stops : (e : Stop) (operand : Kinds → Reading Expr) (rank turns i : ℕ) (left : Expr) (tokens : Kinds) (op : BinOp) (total : Reading Expr)
-    → i < turns → ranked_operator rank tokens ≡ Some op → Stops e (operand (after_next tokens))
-    → chain_from operand rank (turns - i) left tokens ≡ total → Stops e total
+    → i < turns → ranked_operator rank tokens ≡ Some op → StopsReading e (operand (after_next tokens))
+    → chain_from operand rank (turns - i) left tokens ≡ total → StopsReading e total
 unfolding chain_from
 chain_stops stop.NoMemory operand rank turns i left tokens op total lt found h so_far = tt
 chain_stops (stop.Refused rest) operand rank turns i left tokens op total lt found h so_far =
@@ -115,8 +115,8 @@ statements_end names most front left i tokens total lt begins so_far =
     sym so_far ∙ one
 
 pub statements_stop : (e : Stop) (names : List (List ℕ)) (most : ℕ) (front : List Stmt) (left i : ℕ) (tokens : Kinds) (total : Reading (List Stmt))
-    → i < left → begins_statement tokens ≡ true → Stops e (statement (statements names most (left - i - 1)) names most tokens)
-    → with_front front (statements names most (left - i) tokens) ≡ total → Stops e total
+    → i < left → begins_statement tokens ≡ true → StopsReading e (statement (statements names most (left - i - 1)) names most tokens)
+    → with_front front (statements names most (left - i) tokens) ≡ total → StopsReading e total
 unfolding statements
 statements_stop stop.NoMemory names most front left i tokens total lt begins h so_far = tt
 statements_stop (stop.Refused rest) names most front left i tokens total lt begins h so_far =

@@ -12,7 +12,7 @@ use Rattle.mit_lex.specs.declared.token.Token.{Token}
 use Rattle.mit_lex.specs.declared.token.TokenKind.{TokenKind}
 use Rattle.mit_lex.specs.declared.token.TokenKind.TheVariants.{Name}
 use Rattle.mit_script.specs.Grammar.{Kinds, each_once, kinds, name_in, names_in}
-use Rattle.mit_parse.specs.Words.{IsShortName, words_of}
+use Rattle.mit_parse.specs.Words.{IsShortName, texts_of}
 
 -- a token is at most one name
 length-name_in : (token : TokenKind) → length (name_in token) ≤ 1
@@ -70,8 +70,8 @@ variables-bounded tokens few valid = (
 )
 
 -- each of borrowed names is short
-pub word-short : (words : List (Bor (List ℕ))) (i : ℕ) (word : Bor (List ℕ)) → i < length words → All IsShortName (words_of words)
+pub word-short : (words : List (Bor (List ℕ))) (i : ℕ) (word : Bor (List ℕ)) → i < length words → All IsShortName (texts_of words)
     → IsShortName (get_or words i word).now
 word-short words i word lt short =
-    let inside : i < length (words_of words) = omega (arith, length-map words (λ (w : Bor (List ℕ)). w.now)) in
-    subst IsShortName (get_or-map (λ (w : Bor (List ℕ)). w.now) words i word [] lt) (All-get_or IsShortName (words_of words) i [] inside short)
+    let inside : i < length (texts_of words) = omega (arith, length-map words (λ (w : Bor (List ℕ)). w.now)) in
+    subst IsShortName (get_or-map (λ (w : Bor (List ℕ)). w.now) words i word [] lt) (All-get_or IsShortName (texts_of words) i [] inside short)

@@ -13,7 +13,7 @@ use Rattle.mit_script.specs.Grammar.{kinds}
 use Rattle.std.proofs.lemmas.Slice.Eq.{bytes_eq-Decides}
 use Rattle.mit_lex.specs.declared.token.TokenKind.{TokenKind}
 use Rattle.mit_script.specs.Grammar.{Kinds, captured_in, each_once, name_in, names_in, number_in}
-use Rattle.mit_parse.specs.Words.{words_of}
+use Rattle.mit_parse.specs.Words.{texts_of}
 
 -- two tests that hold together are equal
 both_ways : (a b : Bool) → (a ≡ true → b ≡ true) → (b ≡ true → a ≡ true) → a ≡ b
@@ -28,22 +28,22 @@ same_back one other =
     (λ same. (bytes_eq-Decides other one).1 (sym ((bytes_eq-Decides one other).0 same)))
     (λ same. (bytes_eq-Decides one other).1 (sym ((bytes_eq-Decides other one).0 same)))
 
-length-words : (words : List (Bor (List ℕ))) → length (words_of words) ≡ length words
+length-words : (words : List (Bor (List ℕ))) → length (texts_of words) ≡ length words
 length-words [] = refl
 length-words (word ∷ words) = ap suc (length-words words)
 
 place-words : (words : List (Bor (List ℕ))) (name : List ℕ)
-    → position_or_len (λ word. bytes_eq name word.now) words ≡ position_or_len (λ word. bytes_eq word name) (words_of words)
+    → position_or_len (λ word. bytes_eq name word.now) words ≡ position_or_len (λ word. bytes_eq word name) (texts_of words)
 place-words [] name = refl
 place-words (word ∷ words) name = rw (same_back name word.now, place-words words name) refl
 
 -- the number of a name among borrowed ones
 pub number-words : (words : List (Bor (List ℕ))) (name : List ℕ)
-    → unwrap_or (position (λ word. bytes_eq name word.now) words) 0 ≡ number_in (words_of words) name
+    → unwrap_or (position (λ word. bytes_eq name word.now) words) 0 ≡ number_in (texts_of words) name
 number-words words name = rw (place-words words name, length-words words) refl
 
 -- a name is among borrowed ones
-pub any-words : (words : List (Bor (List ℕ))) (name : List ℕ) → list_any (λ word. bytes_eq name word.now) words ≡ list_any (bytes_eq name) (words_of words)
+pub any-words : (words : List (Bor (List ℕ))) (name : List ℕ) → list_any (λ word. bytes_eq name word.now) words ≡ list_any (bytes_eq name) (texts_of words)
 any-words [] name = refl
 any-words (word ∷ words) name = rw (any-words words name) refl
 
@@ -117,7 +117,7 @@ names_in-push (first ∷ tokens) token = rw (names_in-push tokens token) (sym (a
 
 -- one more name, and one more token, as a loop goes over them
 pub words-more : (words : List (Bor (List ℕ))) (i : ℕ) (word : Bor (List ℕ)) → i < length words
-    → words_of (take (i + 1) words) ≡ words_of (take i words) ++ (get_or words i word).now ∷ []
+    → texts_of (take (i + 1) words) ≡ texts_of (take i words) ++ (get_or words i word).now ∷ []
 words-more words i word lt = rw (take_more words i word lt) (map_push (λ word. word.now) (take i words) (get_or words i word))
 
 pub kinds-more : (tokens : List Token) (i : ℕ) (token : Token) → i < length tokens
@@ -125,18 +125,18 @@ pub kinds-more : (tokens : List Token) (i : ℕ) (token : Token) → i < length 
 kinds-more tokens i token lt = rw (take_more tokens i token lt) (map_push (λ token. token.kind) (take i tokens) (get_or tokens i token))
 
 words-kept : (among : Bool) (keys : List (Bor (List ℕ))) (word : Bor (List ℕ))
-    → words_of (cond among keys (keys ++ word ∷ [])) ≡ cond among (words_of keys) (words_of keys ++ word.now ∷ [])
+    → texts_of (cond among keys (keys ++ word ∷ [])) ≡ cond among (texts_of keys) (texts_of keys ++ word.now ∷ [])
 words-kept true keys word = refl
 words-kept false keys word = map_push (λ word. word.now) keys word
 
 -- the names after one more is inserted
 pub once-more : (keys words : List (Bor (List ℕ))) (i : ℕ) (word : Bor (List ℕ)) → i < length words
-    → words_of keys ≡ each_once (words_of (take i words))
-    → words_of (cond (list_any (λ other. bytes_eq (get_or words i word).now other.now) keys) keys (keys ++ get_or words i word ∷ [])) ≡ each_once (words_of (take (i + 1) words))
+    → texts_of keys ≡ each_once (texts_of (take i words))
+    → texts_of (cond (list_any (λ other. bytes_eq (get_or words i word).now other.now) keys) keys (keys ++ get_or words i word ∷ [])) ≡ each_once (texts_of (take (i + 1) words))
 once-more keys words i word lt before =
     let name = get_or words i word in
     rw (words-kept (list_any (λ other. bytes_eq name.now other.now) keys) keys name, any-words keys name.now, before, words-more words i word lt)
-    (sym (each_once-push (words_of (take i words)) name.now))
+    (sym (each_once-push (texts_of (take i words)) name.now))
 
 -- the names after those of one more token
 pub names-more : (tokens : List Token) (i : ℕ) (token : Token) → i < length tokens
@@ -145,11 +145,11 @@ names-more tokens i token lt = rw (kinds-more tokens i token lt) (names_in-push 
 
 -- a name more, and a token that is no name
 pub named : (words : List (Bor (List ℕ))) (before : List (List ℕ)) (word : Bor (List ℕ)) (kind : TokenKind) (name : List ℕ)
-    → words_of words ≡ before → word.now ≡ name → kind ≡ Name name → words_of (words ++ word ∷ []) ≡ before ++ name_in kind
+    → texts_of words ≡ before → word.now ≡ name → kind ≡ Name name → texts_of (words ++ word ∷ []) ≡ before ++ name_in kind
 named words before word kind name so_far same is = rw (is, ← same, ← so_far) (map_push (λ word. word.now) words word)
 
-pub unnamed : (words : List (Bor (List ℕ))) (before : List (List ℕ)) (kind : TokenKind) → words_of words ≡ before
-    → ((name : List ℕ) → kind ≡ Name name → ⊥) → words_of words ≡ before ++ name_in kind
+pub unnamed : (words : List (Bor (List ℕ))) (before : List (List ℕ)) (kind : TokenKind) → texts_of words ≡ before
+    → ((name : List ℕ) → kind ≡ Name name → ⊥) → texts_of words ≡ before ++ name_in kind
 unnamed words before (Name name) so_far other = absurd (other name refl)
 unnamed words before (Number size) so_far other = so_far ∙ sym (append-nil before)
 unnamed words before (Column column) so_far other = so_far ∙ sym (append-nil before)
@@ -160,24 +160,24 @@ unnamed words before (Keyword place) so_far other = so_far ∙ sym (append-nil b
 -- the numbers after that of one more name
 pub numbers-more : (before so_far : List ℕ) (names : List (List ℕ)) (words : List (Bor (List ℕ))) (i : ℕ) (word : Bor (List ℕ)) (number : ℕ)
     → i < length words → number ≡ number_in names (get_or words i word).now
-    → so_far ≡ before ++ map (number_in names) (words_of (take i words))
-    → so_far ++ number ∷ [] ≡ before ++ map (number_in names) (words_of (take (i + 1) words))
+    → so_far ≡ before ++ map (number_in names) (texts_of (take i words))
+    → so_far ++ number ∷ [] ≡ before ++ map (number_in names) (texts_of (take (i + 1) words))
 numbers-more before so_far names words i word number lt is e =
-    rw (e, is, words-more words i word lt, map_push (number_in names) (words_of (take i words)) (get_or words i word).now)
-    (append_assoc before (map (number_in names) (words_of (take i words))) (number_in names (get_or words i word).now ∷ []))
+    rw (e, is, words-more words i word lt, map_push (number_in names) (texts_of (take i words)) (get_or words i word).now)
+    (append_assoc before (map (number_in names) (texts_of (take i words))) (number_in names (get_or words i word).now ∷ []))
 
 -- the words after the first so many, and the first so many
-pub past-words : (count : ℕ) (words past : List (Bor (List ℕ))) (names : List (List ℕ)) → past ≡ drop count words → words_of words ≡ names
-    → words_of past ≡ drop count names
+pub past-words : (count : ℕ) (words past : List (Bor (List ℕ))) (names : List (List ℕ)) → past ≡ drop count words → texts_of words ≡ names
+    → texts_of past ≡ drop count names
 past-words count words past names is e = rw (is, ← e) (sym (drop-map (λ word. word.now) count words))
 
-pub first-words : (count : ℕ) (words first : List (Bor (List ℕ))) (names : List (List ℕ)) → first ≡ take count words → words_of words ≡ names
-    → words_of first ≡ take count names
+pub first-words : (count : ℕ) (words first : List (Bor (List ℕ))) (names : List (List ℕ)) → first ≡ take count words → texts_of words ≡ names
+    → texts_of first ≡ take count names
 first-words count words first names is e = rw (is, ← e) (sym (take-map (λ word. word.now) count words))
 
 -- the words after the bags of a run, each once, are the captured names
-pub captured-words : (names : List (List ℕ)) (words slice past : List (Bor (List ℕ))) (bags count : ℕ) (ahead run : Kinds) → names ≡ each_once (words_of past)
-    → past ≡ drop bags slice → slice ≡ words → words_of words ≡ names_in ahead → ahead ≡ run → bags ≡ count → names ≡ captured_in count run
+pub captured-words : (names : List (List ℕ)) (words slice past : List (Bor (List ℕ))) (bags count : ℕ) (ahead run : Kinds) → names ≡ each_once (texts_of past)
+    → past ≡ drop bags slice → slice ≡ words → texts_of words ≡ names_in ahead → ahead ≡ run → bags ≡ count → names ≡ captured_in count run
 captured-words names words slice past bags count ahead run once cut same read front counted =
     let after = past-words bags words past (names_in ahead) (cut ∙ ap (λ (list : List (Bor (List ℕ))). drop bags list) same) read in
     rw (← counted, ← front) (once ∙ ap each_once after)

@@ -6,7 +6,7 @@ use Rattle.mit_lex.specs.declared.token.Token.{Token}
 use Rattle.mit_lex.specs.declared.token.TokenKind.{TokenKind}
 use Rattle.mit_script.specs.Grammar.{CanGoOn, IsRefused, IsSpelled, Kinds, Spells, StopsBefore, kinds}
 use Rattle.mit_script.specs.declared.tree.Script.{Script}
-use Rattle.mit_parse.specs.Places.{IsRefusedAt, before, no_tokens, start_of}
+use Rattle.mit_parse.specs.Places.{IsRefusedAt, at_token, no_tokens, start_of}
 
 -- where a spelled list begins with some tokens, it begins with the first of them
 goes_on_with : (front : Kinds) (token : TokenKind) (more : Kinds) → CanGoOn (front ++ token ∷ more) → CanGoOn (front ++ token ∷ [])
@@ -82,15 +82,15 @@ same_left front rest front' rest' same stops stops' =
 
 pub one_place : (text : List ℕ) (one other : ℕ) → IsRefusedAt text one → IsRefusedAt text other → one ≡ other
 one_place text one other (no_tokens a) (no_tokens b) = cc
-one_place text one other (no_tokens a) (before front rest b stops) = cc
-one_place text one other (before front rest a stops) (no_tokens b) = cc
-one_place text one other (before front rest a stops) (before front' rest' b stops') =
+one_place text one other (no_tokens a) (at_token front rest b stops) = cc
+one_place text one other (at_token front rest a stops) (no_tokens b) = cc
+one_place text one other (at_token front rest a stops) (at_token front' rest' b stops') =
     let same : front ++ rest ≡ front' ++ rest' = cc in
     ap (λ (l : List Token). start_of text l) (same_left front rest front' rest' same stops stops')
 
 pub never_both : (text : List ℕ) (script : Script) (place : ℕ) → IsSpelled text script → IsRefusedAt text place → ⊥
 never_both text script place spelled (no_tokens a) = cc spelled.read
-never_both text script place spelled (before front rest a stops) =
+never_both text script place spelled (at_token front rest a stops) =
     let same : spelled.tokens ≡ front ++ rest = cc spelled.read in
     none_from stops.front (kinds rest) stops.refused script
     (subst (λ (k : Kinds). Spells script k) (ap (λ (l : List Token). kinds l) same ∙ stops.cut) spelled.spelled)

@@ -11,7 +11,7 @@ use Rattle.mit_script.specs.PrintsBack.{CanBeSpelled}
 use Rattle.mit_script.specs.Reading.{read_script}
 use Rattle.mit_script.specs.declared.tree.Script.{Script}
 use Rattle.mit_parse.proofs.OneReading.{end_is}
-use Rattle.mit_parse.specs.Places.{IsRefusedAt, before, no_tokens, start_of}
+use Rattle.mit_parse.specs.Places.{IsRefusedAt, at_token, no_tokens, start_of}
 
 -- the place of a refusal, by the tokens that are left
 place_is : (text : List ℕ) (tokens : List Token) (rest : Kinds) → tokens_of text ≡ Ok tokens → StopsBefore (kinds tokens) rest
@@ -25,7 +25,7 @@ place_is text tokens rest found stops =
     let left_is : kinds left ≡ rest =
     sym (drop-map (λ (token : Token). token.kind) count tokens) ∙ ap (λ (n : ℕ). drop (n - length rest) (kinds tokens)) (sym size)
     ∙ rw stops.cut (end_is stops.front rest) in
-    before first left (found ∙ ap (λ (l : List Token). Ok l) whole)
+    at_token first left (found ∙ ap (λ (l : List Token). Ok l) whole)
     (subst (λ (k : Kinds). StopsBefore (kinds (first ++ left)) k) (sym left_is) (subst (λ (l : List Token). StopsBefore (kinds l) rest) whole stops))
 
 -- where reading stopped, a text is refused at the place of the first token left

@@ -15,7 +15,7 @@ start_of text (token ∷ rest) = token.start
 -- text's end where the grammar wants more tokens
 pub data IsRefusedAt (text : List ℕ) : ℕ → Type 0 where
   no_tokens : {place : ℕ} → tokens_of text ≡ Err place → IsRefusedAt text place
-  before : (front rest : List Token) → tokens_of text ≡ Ok (front ++ rest) → StopsBefore (kinds (front ++ rest)) (kinds rest)
+  at_token : (front rest : List Token) → tokens_of text ≡ Ok (front ++ rest) → StopsBefore (kinds (front ++ rest)) (kinds rest)
       → IsRefusedAt text (start_of text rest)
 
 -- what a refusal tells of a text; where memory ran out, nothing

@@ -12,10 +12,10 @@ abbrev pub IsShortName : List ℕ → Type 0
 IsShortName name = (1 ≤ length name) × (length name ≤ MAX_WORD)
 
 -- the bytes of each of them
-abbrev pub words_of : List (Bor (List ℕ)) → List (List ℕ)
-words_of words = map (λ word. word.now) words
+abbrev pub texts_of : List (Bor (List ℕ)) → List (List ℕ)
+texts_of words = map (λ word. word.now) words
 
 -- an operator over the arguments of its run, after which this symbol stands
-abbrev pub closed : ℕ → List (List ℕ) → OpSpec → Kinds → Kinds → Reading Operation
-closed ending names op run rest =
+abbrev pub closed_operation : ℕ → List (List ℕ) → OpSpec → Kinds → Kinds → Reading Operation
+closed_operation ending names op run rest =
     expect_symbol ending rest >>= λ end. Ok ((op, arguments_in names (bag_inputs_of op) run), end.1)

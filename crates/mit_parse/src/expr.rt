@@ -3,7 +3,7 @@ ghost use Rattle.std.specs.Prelude.{◌≡◌, ◌≤◌, ◌-◌, ◌∷◌};
 ghost use Rattle.mit_lex.specs.declared.token.TokenKind.TheVariants.{Keyword};
 ghost use Rattle.mit_script.specs.Grammar.{number_in};
 ghost use Rattle.mit_script.specs.Reading as spec;
-ghost use Rattle.mit_parse.specs.Gives.{Gives};
+ghost use Rattle.mit_parse.specs.Gives.{GivesReading};
 
 use crate::ahead::Ahead;
 use crate::beside::beside;
@@ -29,7 +29,7 @@ const ALONE: u8 = 7;
 /// The number after a `-`.
 #[tactic(auto, unfolding(mit_script::specs::Reading::negative_at))]
 fn negative_at(tokens: Ahead<'_>) -> Result<(Expr, Ahead<'_>), Stop<'_>>
-    ensures { Gives result (spec.negative_at tokens.entry) }
+    ensures { GivesReading result (spec.negative_at tokens.entry) }
 {
     let Some((kind, rest)) = tokens.next() else {
         return Err(Stop::Refused(tokens));
@@ -52,7 +52,7 @@ fn enclosed_at<'a>(
     depth: usize,
     tokens: Ahead<'a>,
 ) -> Result<(Expr, Ahead<'a>), Stop<'a>>
-    ensures { Gives result
+    ensures { GivesReading result
         (spec.enclosed_at (spec.expression (number_in captured.now) depth 7) tokens.entry) }
 {
     let (inner, rest) = expression(alloc, captured, depth, ALONE, tokens)?;
@@ -70,7 +70,7 @@ fn called_at<'a>(
     call: Call,
     tokens: Ahead<'a>,
 ) -> Result<(Expr, Ahead<'a>), Stop<'a>>
-    ensures { Gives result
+    ensures { GivesReading result
         (spec.called_at (spec.expression (number_in captured.now) depth 7) call tokens.entry) }
 {
     let rest = expect_symbol(symbol::LEFT_PAREN, tokens)?;
@@ -90,7 +90,7 @@ fn by_word<'a>(
     rest: Ahead<'a>,
 ) -> Result<(Expr, Ahead<'a>), Stop<'a>>
     requires { tokens ≡ Keyword place ∷ rest }
-    ensures { Gives result
+    ensures { GivesReading result
         (spec.primary_by (spec.expression (number_in captured.now) depth 7) (number_in captured.now) (Keyword place) rest.entry) }
 {
     if place == keyword::TRUE {
@@ -114,7 +114,7 @@ fn primary<'a>(
     depth: usize,
     tokens: Ahead<'a>,
 ) -> Result<(Expr, Ahead<'a>), Stop<'a>>
-    ensures { Gives result
+    ensures { GivesReading result
         (spec.primary (spec.expression (number_in captured.now) depth 7) (number_in captured.now) tokens.entry) }
 {
     let Some((kind, rest)) = tokens.next() else {
@@ -125,7 +125,7 @@ fn primary<'a>(
             Ok(number) => Ok((Expr::Lit(Value::Int(number)), rest)),
             Err(_) => Err(Stop::Refused(tokens)),
         },
-        TokenKind::Text(text) => Ok((Expr::Lit(Value::Text(text.copy(alloc)?)), rest)),
+        TokenKind::Text(text) => Ok((Expr::Lit(Value::Text(text.copy()?)), rest)),
         TokenKind::Column(column) => Ok((Expr::Column(*column), rest)),
         TokenKind::Name(name) => Ok((Expr::Capture(captured.capture(name.as_str())), rest)),
         TokenKind::Symbol(symbol::MINUS) => negative_at(rest),
@@ -146,7 +146,7 @@ fn chain_from<'a>(
     tokens: Ahead<'a>,
 ) -> Result<(Expr, Ahead<'a>), Stop<'a>>
     requires { below ≤ 6 }
-    ensures { Gives result
+    ensures { GivesReading result
         (spec.chain_from (spec.ranked (spec.expression (number_in captured.now) depth) (number_in captured.now) depth below)
         (6 - below) depth left tokens.entry) }
 {
@@ -174,7 +174,7 @@ fn chain<'a>(
     tokens: Ahead<'a>,
 ) -> Result<(Expr, Ahead<'a>), Stop<'a>>
     requires { below ≤ 6 }
-    ensures { Gives result
+    ensures { GivesReading result
         (spec.chain (spec.ranked (spec.expression (number_in captured.now) depth) (number_in captured.now) depth below)
         (6 - below) depth tokens.entry) }
 {
@@ -193,7 +193,7 @@ fn comparison<'a>(
     tokens: Ahead<'a>,
 ) -> Result<(Expr, Ahead<'a>), Stop<'a>>
     requires { below ≤ 6 }
-    ensures { Gives result
+    ensures { GivesReading result
         (spec.comparison (spec.ranked (spec.expression (number_in captured.now) depth) (number_in captured.now) depth below)
         tokens.entry) }
 {
@@ -220,7 +220,7 @@ fn negation<'a>(
     tokens: Ahead<'a>,
 ) -> Result<(Expr, Ahead<'a>), Stop<'a>>
     requires { below ≤ 6 }
-    ensures { Gives result
+    ensures { GivesReading result
         (spec.negation (spec.expression (number_in captured.now) depth 5)
         (spec.ranked (spec.expression (number_in captured.now) depth) (number_in captured.now) depth below) tokens.entry) }
 {
@@ -242,7 +242,7 @@ fn ranked<'a>(
     tokens: Ahead<'a>,
 ) -> Result<(Expr, Ahead<'a>), Stop<'a>>
     requires { below ≤ 7 }
-    ensures { Gives result
+    ensures { GivesReading result
         (spec.ranked (spec.expression (number_in captured.now) depth) (number_in captured.now) depth below tokens.entry) }
 {
     if below == 0 {
@@ -269,7 +269,7 @@ pub(crate) fn expression<'a>(
     tokens: Ahead<'a>,
 ) -> Result<(Expr, Ahead<'a>), Stop<'a>>
     requires { below ≤ 7 }
-    ensures { Gives result
+    ensures { GivesReading result
         (spec.expression (number_in captured.now) depth below tokens.entry) }
 {
     if depth == 0 {
@@ -285,7 +285,7 @@ pub(crate) fn any_expression<'a>(
     most: usize,
     tokens: Ahead<'a>,
 ) -> Result<(Expr, Ahead<'a>), Stop<'a>>
-    ensures { Gives result
+    ensures { GivesReading result
         (spec.any_expression (number_in captured.now) most tokens.entry) }
 {
     expression(alloc, captured, most, ALONE, tokens)

@@ -2,7 +2,7 @@
 ghost use Rattle.mit_script.specs.Grammar.{Kinds, number_in};
 ghost use Rattle.mit_script.specs.Reading.{Reading};
 ghost use Rattle.mit_script.specs.Reading as spec;
-ghost use Rattle.mit_parse.specs.Gives.{Gives, GivesAs};
+ghost use Rattle.mit_parse.specs.Gives.{GivesAs, GivesReading};
 
 use crate::ahead::Ahead;
 use crate::expr::any_expression;
@@ -28,7 +28,7 @@ trait ItemReader {
         alloc: Global,
         tokens: Ahead<'a>,
     ) -> Result<(Self::Item, Ahead<'a>), Stop<'a>>
-        ensures { Gives result (item self.now tokens.entry) };
+        ensures { GivesReading result (item self.now tokens.entry) };
 }
 
 /// Reads types.
@@ -38,7 +38,7 @@ struct TypeReader;
 impl ItemReader for TypeReader {
     type Item = ColType;
 
-    ghost item = { λ _. spec.type_at };
+    ghost item = { λ _. spec.type_word_at };
 
     fn next<'a>(&self, _: Global, tokens: Ahead<'a>) -> Result<(ColType, Ahead<'a>), Stop<'a>> {
         next_type(tokens)
@@ -105,7 +105,7 @@ pub(crate) fn types_at(
     most: usize,
     tokens: Ahead<'_>,
 ) -> Result<(ColTypes, Ahead<'_>), Stop<'_>>
-    ensures { Gives result (spec.types_at most tokens.entry) }
+    ensures { GivesReading result (spec.types_at most tokens.entry) }
 {
     let rest = expect_symbol(symbol::LEFT_PAREN, tokens)?;
     let (types, rest) = listed(alloc, &TypeReader, most, rest)?;
@@ -119,7 +119,7 @@ pub(crate) fn columns_at(
     most: usize,
     tokens: Ahead<'_>,
 ) -> Result<(Columns, Ahead<'_>), Stop<'_>>
-    ensures { Gives result (spec.columns_at most tokens.entry) }
+    ensures { GivesReading result (spec.columns_at most tokens.entry) }
 {
     let (columns, rest) = listed(alloc, &ColumnReader, most, tokens)?;
     Ok((Columns::from_vec(columns), rest))
@@ -133,7 +133,7 @@ pub(crate) fn exprs_at<'a>(
     most: usize,
     tokens: Ahead<'a>,
 ) -> Result<(Exprs, Ahead<'a>), Stop<'a>>
-    ensures { Gives result (spec.exprs_at (number_in captured.now) most tokens.entry) }
+    ensures { GivesReading result (spec.exprs_at (number_in captured.now) most tokens.entry) }
 {
     let rest = expect_symbol(symbol::LEFT_BRACKET, tokens)?;
     let (exprs, rest) = listed(alloc, &ExpressionReader { captured, most }, most, rest)?;

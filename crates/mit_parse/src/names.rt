@@ -5,7 +5,7 @@ ghost use Rattle.mit_lex.specs.declared.limits.TheConstants.{MAX_SCRIPT};
 ghost use Rattle.mit_script.specs.Grammar as spec;
 ghost use Rattle.mit_script.specs.Reading as reading;
 ghost use Rattle.mit_script.specs.Grammar.{kinds};
-ghost use Rattle.mit_parse.specs.Words.{IsShortName, words_of};
+ghost use Rattle.mit_parse.specs.Words.{IsShortName, texts_of};
 
 use crate::ahead::Ahead;
 use indexmap::IndexSet;
@@ -23,7 +23,7 @@ struct Numbered<'a> {
 
 impl<'a> Model for Numbered<'a> {
     ghost use Rattle.std.specs.Prelude.{List, ℕ};
-    ghost use Rattle.mit_parse.specs.Words.{words_of as texts};
+    ghost use Rattle.mit_parse.specs.Words.{texts_of as texts};
 
     ghost Value = { List (List ℕ) };
 
@@ -114,8 +114,8 @@ fn kept_one(alloc: Global, word: &str) -> Result<Name, AllocError>
 
 /// Names of their own.
 fn kept_all(alloc: Global, words: &[&str]) -> Result<Vec<Name>, AllocError>
-    requires { All IsShortName (words_of words.now) }
-    ensures { IfOk result (λ names. names.items ≡ words_of words.now) }
+    requires { All IsShortName (texts_of words.now) }
+    ensures { IfOk result (λ names. names.items ≡ texts_of words.now) }
 {
     let mut names = Vec::new(alloc);
     for word in words {
@@ -126,7 +126,7 @@ fn kept_all(alloc: Global, words: &[&str]) -> Result<Vec<Name>, AllocError>
 
 /// The names among tokens, in their order.
 fn names_in(alloc: Global, tokens: &[Token]) -> Result<Vec<&str>, AllocError>
-    ensures { IfOk result (λ words. words_of words.items ≡ spec.names_in (kinds tokens.now)) }
+    ensures { IfOk result (λ words. texts_of words.items ≡ spec.names_in (kinds tokens.now)) }
 {
     let mut words = Vec::new(alloc);
     for token in tokens {
@@ -139,7 +139,7 @@ fn names_in(alloc: Global, tokens: &[Token]) -> Result<Vec<&str>, AllocError>
 
 /// Each of these once, in the order in which they appear first.
 fn each_once<'a>(alloc: Global, words: &[&'a str]) -> Result<Numbered<'a>, AllocError>
-    ensures { IfOk result (λ names. names ≡ spec.each_once (words_of words.now)) }
+    ensures { IfOk result (λ names. names ≡ spec.each_once (texts_of words.now)) }
 {
     let mut names = IndexSet::new(alloc);
     for word in words {
@@ -221,7 +221,7 @@ fn add_numbers(
     names: &VariableNames<'_>,
     words: &[&str],
 ) -> Result<(), AllocError>
-    ensures { IfOk result (λ _. numbers.new.items ≡ numbers.old.items ++ map (spec.number_in names.now) (words_of words.now)) }
+    ensures { IfOk result (λ _. numbers.new.items ≡ numbers.old.items ++ map (spec.number_in names.now) (texts_of words.now)) }
 {
     for word in words {
         numbers.push(names.variable(word))?;
@@ -236,7 +236,7 @@ fn numbers_of(
     words: &[&str],
     others: &[&str],
 ) -> Result<Args, AllocError>
-    ensures { IfOk result (λ args. args ≡ map (spec.number_in names.now) (words_of words.now ++ words_of others.now)) }
+    ensures { IfOk result (λ args. args ≡ map (spec.number_in names.now) (texts_of words.now ++ texts_of others.now)) }
 {
     let mut numbers = Vec::new(alloc);
     add_numbers(&mut numbers, names, words)?;

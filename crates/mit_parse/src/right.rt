@@ -2,8 +2,8 @@
 ghost use Rattle.std.specs.Prelude.{◌≡◌};
 ghost use Rattle.mit_script.specs.Grammar.{is_name, number_in};
 ghost use Rattle.mit_script.specs.Reading as spec;
-ghost use Rattle.mit_parse.specs.Forms.{ending_of, form_at};
-ghost use Rattle.mit_parse.specs.Gives.{Gives};
+ghost use Rattle.mit_parse.specs.Forms.{ending_symbol, form_at};
+ghost use Rattle.mit_parse.specs.Gives.{GivesReading};
 
 use crate::ahead::Ahead;
 use crate::beside::beside;
@@ -33,7 +33,7 @@ pub(crate) enum Form {
 impl Form {
     /// The symbol that ends its run.
     pub(crate) fn ending(self) -> u8
-        ensures { result ≡ ending_of self }
+        ensures { result ≡ ending_symbol self }
     {
         match self {
             Form::Right | Form::Write => symbol::SEMICOLON,
@@ -45,7 +45,7 @@ impl Form {
 /// What a reduction makes of the rows of one key.
 #[tactic(auto, unfolding(mit_script::specs::Reading::agg_at))]
 fn agg_at(tokens: Ahead<'_>) -> Result<(Agg, Ahead<'_>), Stop<'_>>
-    ensures { Gives result (spec.agg_at tokens.entry) }
+    ensures { GivesReading result (spec.agg_at tokens.entry) }
 {
     let Some((kind, rest)) = tokens.next() else {
         return Err(Stop::Refused(tokens));
@@ -79,7 +79,7 @@ fn read_at<'a>(
     most: usize,
     tokens: Ahead<'a>,
 ) -> Result<(OpSpec, Ahead<'a>), Stop<'a>>
-    ensures { Gives result (spec.read_at (number_in captured.now) most tokens.entry) }
+    ensures { GivesReading result (spec.read_at (number_in captured.now) most tokens.entry) }
 {
     let (name, rest) = any_expression(alloc, captured, most, tokens)?;
     let (types, rest) = types_at(alloc, most, rest)?;
@@ -94,7 +94,7 @@ fn map_at<'a>(
     most: usize,
     tokens: Ahead<'a>,
 ) -> Result<(OpSpec, Ahead<'a>), Stop<'a>>
-    ensures { Gives result (spec.map_at (number_in captured.now) most tokens.entry) }
+    ensures { GivesReading result (spec.map_at (number_in captured.now) most tokens.entry) }
 {
     let (_, rest) = next_name(tokens)?;
     let (exprs, rest) = exprs_at(alloc, captured, most, rest)?;
@@ -109,7 +109,7 @@ fn filter_at<'a>(
     most: usize,
     tokens: Ahead<'a>,
 ) -> Result<(OpSpec, Ahead<'a>), Stop<'a>>
-    ensures { Gives result (spec.filter_at (number_in captured.now) most tokens.entry) }
+    ensures { GivesReading result (spec.filter_at (number_in captured.now) most tokens.entry) }
 {
     let (_, rest) = next_name(tokens)?;
     let rest = expect_word(keyword::WHERE, rest)?;
@@ -125,12 +125,12 @@ fn words_at<'a>(
     most: usize,
     tokens: Ahead<'a>,
 ) -> Result<(OpSpec, Ahead<'a>), Stop<'a>>
-    ensures { Gives result (spec.words_at (number_in captured.now) most tokens.entry) }
+    ensures { GivesReading result (spec.words_at (number_in captured.now) most tokens.entry) }
 {
     let (expr, rest) = any_expression(alloc, captured, most, tokens)?;
     let (expr, rest) = beside(expr, expect_symbol(symbol::COMMA, rest))?;
     let (expr, (separator, rest)) = beside(expr, next_text(rest))?;
-    let (expr, separator) = beside(expr, separator.copy(alloc))?;
+    let (expr, separator) = beside(expr, separator.copy())?;
     let flat = Flat::Words { expr, separator };
     Ok((OpSpec::FlatMap { flat }, rest))
 }
@@ -143,7 +143,7 @@ fn range_at<'a>(
     most: usize,
     tokens: Ahead<'a>,
 ) -> Result<(OpSpec, Ahead<'a>), Stop<'a>>
-    ensures { Gives result (spec.range_at (number_in captured.now) most tokens.entry) }
+    ensures { GivesReading result (spec.range_at (number_in captured.now) most tokens.entry) }
 {
     let (from, rest) = any_expression(alloc, captured, most, tokens)?;
     let (from, rest) = beside(from, expect_symbol(symbol::COMMA, rest))?;
@@ -160,7 +160,7 @@ fn flat_by<'a>(
     most: usize,
     tokens: Ahead<'a>,
 ) -> Result<(OpSpec, Ahead<'a>), Stop<'a>>
-    ensures { Gives result (spec.flat_by (number_in captured.now) most tokens.entry) }
+    ensures { GivesReading result (spec.flat_by (number_in captured.now) most tokens.entry) }
 {
     if sees_word(keyword::WORDS, &tokens) {
         return words_at(alloc, captured, most, after_next(tokens));
@@ -179,7 +179,7 @@ fn flat_at<'a>(
     most: usize,
     tokens: Ahead<'a>,
 ) -> Result<(OpSpec, Ahead<'a>), Stop<'a>>
-    ensures { Gives result (spec.flat_at (number_in captured.now) most tokens.entry) }
+    ensures { GivesReading result (spec.flat_at (number_in captured.now) most tokens.entry) }
 {
     let (_, rest) = next_name(tokens)?;
     flat_by(alloc, captured, most, rest)
@@ -188,7 +188,7 @@ fn flat_at<'a>(
 /// After `join`.
 #[tactic(auto, unfolding(mit_script::specs::Reading::join_at))]
 fn join_at(alloc: Global, most: usize, tokens: Ahead<'_>) -> Result<(OpSpec, Ahead<'_>), Stop<'_>>
-    ensures { Gives result (spec.join_at most tokens.entry) }
+    ensures { GivesReading result (spec.join_at most tokens.entry) }
 {
     let (_, rest) = next_name(tokens)?;
     let (left, rest) = columns_at(alloc, most, rest)?;
@@ -201,7 +201,7 @@ fn join_at(alloc: Global, most: usize, tokens: Ahead<'_>) -> Result<(OpSpec, Ahe
 /// After `reduce`.
 #[tactic(auto, unfolding(mit_script::specs::Reading::reduce_at))]
 fn reduce_at(alloc: Global, most: usize, tokens: Ahead<'_>) -> Result<(OpSpec, Ahead<'_>), Stop<'_>>
-    ensures { Gives result (spec.reduce_at most tokens.entry) }
+    ensures { GivesReading result (spec.reduce_at most tokens.entry) }
 {
     let (_, rest) = next_name(tokens)?;
     let rest = expect_word(keyword::BY, rest)?;
@@ -213,7 +213,7 @@ fn reduce_at(alloc: Global, most: usize, tokens: Ahead<'_>) -> Result<(OpSpec, A
 /// After `union`.
 #[tactic(auto, unfolding(mit_script::specs::Reading::union_at))]
 fn union_at(tokens: Ahead<'_>) -> Result<(OpSpec, Ahead<'_>), Stop<'_>>
-    ensures { Gives result (spec.union_at tokens.entry) }
+    ensures { GivesReading result (spec.union_at tokens.entry) }
 {
     let (_, rest) = next_name(tokens)?;
     let rest = expect_symbol(symbol::COMMA, rest)?;
@@ -224,7 +224,7 @@ fn union_at(tokens: Ahead<'_>) -> Result<(OpSpec, Ahead<'_>), Stop<'_>>
 /// An operator of one bag and nothing else.
 #[tactic(auto, unfolding(mit_script::specs::Reading::of_bag_at))]
 fn of_bag_at(op: OpSpec, tokens: Ahead<'_>) -> Result<(OpSpec, Ahead<'_>), Stop<'_>>
-    ensures { Gives result (spec.of_bag_at op tokens.entry) }
+    ensures { GivesReading result (spec.of_bag_at op tokens.entry) }
 {
     let (op, (_, rest)) = beside(op, next_name(tokens))?;
     Ok((op, rest))
@@ -233,7 +233,7 @@ fn of_bag_at(op: OpSpec, tokens: Ahead<'_>) -> Result<(OpSpec, Ahead<'_>), Stop<
 /// After `sum`.
 #[tactic(auto, unfolding(mit_script::specs::Reading::sum_at))]
 fn sum_at(tokens: Ahead<'_>) -> Result<(OpSpec, Ahead<'_>), Stop<'_>>
-    ensures { Gives result (spec.sum_at tokens.entry) }
+    ensures { GivesReading result (spec.sum_at tokens.entry) }
 {
     let (_, rest) = next_name(tokens)?;
     let (column, rest) = next_column(rest)?;
@@ -241,14 +241,14 @@ fn sum_at(tokens: Ahead<'_>) -> Result<(OpSpec, Ahead<'_>), Stop<'_>>
 }
 
 /// After `row`.
-#[tactic(auto, unfolding(mit_script::specs::Reading::row_at))]
+#[tactic(auto, unfolding(mit_script::specs::Reading::row_form_at))]
 fn row_at<'a>(
     alloc: Global,
     captured: &CapturedNames<'_>,
     most: usize,
     tokens: Ahead<'a>,
 ) -> Result<(OpSpec, Ahead<'a>), Stop<'a>>
-    ensures { Gives result (spec.row_at (number_in captured.now) most tokens.entry) }
+    ensures { GivesReading result (spec.row_form_at (number_in captured.now) most tokens.entry) }
 {
     let (exprs, rest) = exprs_at(alloc, captured, most, tokens)?;
     Ok((OpSpec::MakeRow { exprs }, rest))
@@ -257,7 +257,7 @@ fn row_at<'a>(
 /// After `empty`.
 #[tactic(auto, unfolding(mit_script::specs::Reading::empty_at))]
 fn empty_at(alloc: Global, most: usize, tokens: Ahead<'_>) -> Result<(OpSpec, Ahead<'_>), Stop<'_>>
-    ensures { Gives result (spec.empty_at most tokens.entry) }
+    ensures { GivesReading result (spec.empty_at most tokens.entry) }
 {
     let (types, rest) = types_at(alloc, most, tokens)?;
     Ok((OpSpec::Empty { types }, rest))
@@ -278,7 +278,7 @@ fn scalar_at<'a>(
     most: usize,
     tokens: Ahead<'a>,
 ) -> Result<(OpSpec, Ahead<'a>), Stop<'a>>
-    ensures { Gives result (spec.scalar_at (number_in captured.now) most tokens.entry) }
+    ensures { GivesReading result (spec.scalar_at (number_in captured.now) most tokens.entry) }
 {
     let (expr, rest) = any_expression(alloc, captured, most, tokens)?;
     if is_name(&expr) {
@@ -296,7 +296,7 @@ fn right_by<'a>(
     tokens: Ahead<'a>,
     rest: Ahead<'a>,
 ) -> Result<(OpSpec, Ahead<'a>), Stop<'a>>
-    ensures { Gives result
+    ensures { GivesReading result
         (spec.right_by (number_in captured.now) most place tokens.entry rest.entry) }
 {
     match place {
@@ -325,7 +325,7 @@ fn right_at<'a>(
     most: usize,
     tokens: Ahead<'a>,
 ) -> Result<(OpSpec, Ahead<'a>), Stop<'a>>
-    ensures { Gives result (spec.right_at (number_in captured.now) most tokens.entry) }
+    ensures { GivesReading result (spec.right_at (number_in captured.now) most tokens.entry) }
 {
     match tokens.next() {
         Some((TokenKind::Keyword(place), rest)) => {
@@ -336,14 +336,14 @@ fn right_at<'a>(
 }
 
 /// A write, without its `;`.
-#[tactic(auto, unfolding(mit_script::specs::Reading::write_at))]
+#[tactic(auto, unfolding(mit_script::specs::Reading::write_form_at))]
 fn write_at<'a>(
     alloc: Global,
     captured: &CapturedNames<'_>,
     most: usize,
     tokens: Ahead<'a>,
 ) -> Result<(OpSpec, Ahead<'a>), Stop<'a>>
-    ensures { Gives result (spec.write_at (number_in captured.now) most tokens.entry) }
+    ensures { GivesReading result (spec.write_form_at (number_in captured.now) most tokens.entry) }
 {
     let rest = expect_word(keyword::WRITE, tokens)?;
     let (_, rest) = next_name(rest)?;
@@ -360,7 +360,7 @@ fn condition_at<'a>(
     most: usize,
     tokens: Ahead<'a>,
 ) -> Result<(OpSpec, Ahead<'a>), Stop<'a>>
-    ensures { Gives result (spec.condition_at (number_in captured.now) most tokens.entry) }
+    ensures { GivesReading result (spec.condition_at (number_in captured.now) most tokens.entry) }
 {
     let (expr, rest) = any_expression(alloc, captured, most, tokens)?;
     Ok((OpSpec::Scalar { expr }, rest))
@@ -374,7 +374,7 @@ pub(crate) fn form_at<'a>(
     most: usize,
     tokens: Ahead<'a>,
 ) -> Result<(OpSpec, Ahead<'a>), Stop<'a>>
-    ensures { Gives result (form_at form (number_in captured.now) most tokens.entry) }
+    ensures { GivesReading result (form_at form (number_in captured.now) most tokens.entry) }
 {
     match form {
         Form::Right => right_at(alloc, captured, most, tokens),

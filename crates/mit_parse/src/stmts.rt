@@ -4,10 +4,10 @@ ghost use Rattle.mit_lex.specs.Valid.{IsToken};
 ghost use Rattle.mit_lex.specs.declared.limits.TheConstants.{MAX_SCRIPT};
 ghost use Rattle.mit_script.specs.Grammar.{kinds};
 ghost use Rattle.mit_script.specs.Reading as spec;
-ghost use Rattle.mit_parse.specs.Forms.{ending_of, form_at as spec_form_at};
-ghost use Rattle.mit_parse.specs.Gives.{Gives, GivesAs};
+ghost use Rattle.mit_parse.specs.Forms.{ending_symbol, form_at as spec_form_at};
+ghost use Rattle.mit_parse.specs.Gives.{GivesAs, GivesReading};
 ghost use Rattle.mit_parse.specs.Runs.{HasShortRuns};
-ghost use Rattle.mit_parse.specs.Words.{closed as spec_closed};
+ghost use Rattle.mit_parse.specs.Words.{closed_operation as spec_closed};
 
 use crate::ahead::Ahead;
 use crate::beside::beside;
@@ -33,7 +33,7 @@ fn closed<'a>(
     run: &[Token],
     rest: Ahead<'a>,
 ) -> Result<(Operation, Ahead<'a>), Stop<'a>>
-    ensures { Gives result
+    ensures { GivesReading result
         (spec_closed ending names.now op (kinds run.now) rest.entry) }
 {
     let (op, rest) = beside(op, expect_symbol(ending, rest))?;
@@ -50,7 +50,7 @@ fn form_ahead<'a>(
     most: usize,
     tokens: Ahead<'a>,
 ) -> Result<(OpSpec, Ahead<'a>), Stop<'a>>
-    ensures { Gives result (spec_form_at form (spec.number_ahead tokens.entry) most tokens.entry) }
+    ensures { GivesReading result (spec_form_at form (spec.number_ahead tokens.entry) most tokens.entry) }
 {
     let captured = captured_ahead(alloc, &tokens)?;
     form_at(alloc, &captured, form, most, tokens)
@@ -65,8 +65,8 @@ fn operation<'a>(
     most: usize,
     tokens: Ahead<'a>,
 ) -> Result<(Operation, Ahead<'a>), Stop<'a>>
-    ensures { Gives result
-        (spec.operation (spec_form_at form) (ending_of form) names.now most tokens.entry) }
+    ensures { GivesReading result
+        (spec.operation (spec_form_at form) (ending_symbol form) names.now most tokens.entry) }
 {
     let run = tokens.run();
     let (op, rest) = form_ahead(alloc, form, most, tokens)?;
@@ -81,7 +81,7 @@ fn assignment<'a>(
     most: usize,
     tokens: Ahead<'a>,
 ) -> Result<(Stmt, Ahead<'a>), Stop<'a>>
-    ensures { Gives result (spec.assignment names.now most tokens.entry) }
+    ensures { GivesReading result (spec.assignment names.now most tokens.entry) }
 {
     let (target, rest) = next_name(tokens)?;
     let rest = expect_symbol(symbol::EQUALS, rest)?;
@@ -91,14 +91,14 @@ fn assignment<'a>(
 }
 
 /// A write.
-#[tactic(auto, unfolding(mit_script::specs::Reading::write))]
+#[tactic(auto, unfolding(mit_script::specs::Reading::write_statement))]
 fn write<'a>(
     alloc: Global,
     names: &VariableNames<'_>,
     most: usize,
     tokens: Ahead<'a>,
 ) -> Result<(Stmt, Ahead<'a>), Stop<'a>>
-    ensures { Gives result (spec.write names.now most tokens.entry) }
+    ensures { GivesReading result (spec.write_statement names.now most tokens.entry) }
 {
     let ((op, args), rest) = operation(alloc, names, Form::Write, most, tokens)?;
     Ok((Stmt::Write { op, args }, rest))
@@ -106,7 +106,7 @@ fn write<'a>(
 
 /// The rest of a block, after its `{`.
 #[cycle(statements)]
-#[tactic(auto, unfolding(mit_script::specs::Reading::block_at))]
+#[tactic(auto, unfolding(mit_script::specs::Reading::rest_of_block))]
 fn block_at<'a>(
     alloc: Global,
     names: &VariableNames<'_>,
@@ -114,8 +114,8 @@ fn block_at<'a>(
     left: usize,
     tokens: Ahead<'a>,
 ) -> Result<(Items<Stmt>, Ahead<'a>), Stop<'a>>
-    ensures { Gives result
-        (spec.block_at (spec.statements names.now most left) tokens.entry) }
+    ensures { GivesReading result
+        (spec.rest_of_block (spec.statements names.now most left) tokens.entry) }
 {
     let (body, rest) = statements(alloc, names, most, left, tokens)?;
     let rest = expect_symbol(symbol::RIGHT_BRACE, rest)?;
@@ -132,7 +132,7 @@ fn else_at<'a>(
     left: usize,
     tokens: Ahead<'a>,
 ) -> Result<(Items<Stmt>, Ahead<'a>), Stop<'a>>
-    ensures { Gives result
+    ensures { GivesReading result
         (spec.else_at (spec.statements names.now most left) tokens.entry) }
 {
     if !sees_word(keyword::ELSE, &tokens) {
@@ -144,7 +144,7 @@ fn else_at<'a>(
 
 /// After the word `if`.
 #[cycle(statements)]
-#[tactic(auto, unfolding(mit_script::specs::Reading::branch))]
+#[tactic(auto, unfolding(mit_script::specs::Reading::if_statement))]
 fn branch<'a>(
     alloc: Global,
     names: &VariableNames<'_>,
@@ -152,8 +152,8 @@ fn branch<'a>(
     left: usize,
     tokens: Ahead<'a>,
 ) -> Result<(Stmt, Ahead<'a>), Stop<'a>>
-    ensures { Gives result
-        (spec.branch (spec.statements names.now most left) names.now most tokens.entry) }
+    ensures { GivesReading result
+        (spec.if_statement (spec.statements names.now most left) names.now most tokens.entry) }
 {
     let (condition, rest) = operation(alloc, names, Form::Condition, most, tokens)?;
     let (condition, (yes, rest)) = beside(condition, block_at(alloc, names, most, left, rest))?;
@@ -171,8 +171,8 @@ fn repeated<'a>(
     left: usize,
     tokens: Ahead<'a>,
 ) -> Result<(Stmt, Ahead<'a>), Stop<'a>>
-    ensures { Gives result
-        (spec.loop (spec.statements names.now most left) names.now most tokens.entry) }
+    ensures { GivesReading result
+        (spec.while_statement (spec.statements names.now most left) names.now most tokens.entry) }
 {
     let (condition, rest) = operation(alloc, names, Form::Condition, most, tokens)?;
     let (condition, (body, rest)) = beside(condition, block_at(alloc, names, most, left, rest))?;
@@ -190,7 +190,7 @@ fn statement<'a>(
     left: usize,
     tokens: Ahead<'a>,
 ) -> Result<(Stmt, Ahead<'a>), Stop<'a>>
-    ensures { Gives result
+    ensures { GivesReading result
         (spec.statement (spec.statements names.now most left) names.now most tokens.entry) }
 {
     if sees_word(keyword::WRITE, &tokens) {
@@ -253,7 +253,7 @@ fn body<'a>(
     tokens: Ahead<'a>,
 ) -> Result<Vec<Stmt>, Stop<'a>>
     ensures { GivesAs (λ body. body.items) result
-        (spec.ended (spec.statements names.now (length tokens.entry + 1) (length tokens.entry + 1) tokens.entry)) }
+        (spec.ended_reading (spec.statements names.now (length tokens.entry + 1) (length tokens.entry + 1) tokens.entry)) }
 {
     let most = tokens.len() + 1;
     let (found, rest) = statements(alloc, names, most, most, tokens)?;
@@ -269,8 +269,8 @@ fn script_over<'a>(
     names: &VariableNames<'_>,
     tokens: Ahead<'a>,
 ) -> Result<Script, Stop<'a>>
-    ensures { Gives result
-        (spec.with_names names.now (spec.ended (spec.statements names.now (length tokens.entry + 1) (length tokens.entry + 1) tokens.entry))) }
+    ensures { GivesReading result
+        (spec.with_names names.now (spec.ended_reading (spec.statements names.now (length tokens.entry + 1) (length tokens.entry + 1) tokens.entry))) }
 {
     let body = Items::from_vec(body(alloc, names, tokens)?);
     let (body, names) = beside(body, names.kept(alloc))?;
@@ -283,7 +283,7 @@ pub(crate) fn read_script(alloc: Global, tokens: &[Token]) -> Result<Script, Sto
     requires few { length tokens.now ≤ MAX_SCRIPT }
     requires valid { All (λ token. IsToken token.kind) tokens.now }
     requires short { HasShortRuns (kinds tokens.now) }
-    ensures { Gives result (spec.read_script (kinds tokens.now)) }
+    ensures { GivesReading result (spec.read_script (kinds tokens.now)) }
 {
     let names = variables(alloc, tokens)?;
     script_over(alloc, &names, Ahead::of(tokens))

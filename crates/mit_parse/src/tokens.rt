@@ -1,7 +1,7 @@
 //! What the next token is.
 ghost use Rattle.std.specs.Prelude.{◌≡◌};
 ghost use Rattle.mit_script.specs.Reading as spec;
-ghost use Rattle.mit_parse.specs.Gives.{Gives, GivesAs};
+ghost use Rattle.mit_parse.specs.Gives.{GivesAs, GivesReading};
 
 use crate::ahead::Ahead;
 use crate::stop::Stop;
@@ -53,7 +53,7 @@ pub(crate) fn next_name(tokens: Ahead<'_>) -> Result<(&Text, Ahead<'_>), Stop<'_
 /// The next column, and the tokens after it.
 #[tactic(auto, unfolding(mit_script::specs::Reading::column_at))]
 pub(crate) fn next_column(tokens: Ahead<'_>) -> Result<(u8, Ahead<'_>), Stop<'_>>
-    ensures { Gives result (spec.column_at tokens.entry) }
+    ensures { GivesReading result (spec.column_at tokens.entry) }
 {
     let Some((kind, rest)) = tokens.next() else {
         return Err(Stop::Refused(tokens));
@@ -91,9 +91,9 @@ fn type_of_word(place: u8) -> Option<ColType>
 }
 
 /// The next type, and the tokens after it.
-#[tactic(auto, unfolding(mit_script::specs::Reading::type_at))]
+#[tactic(auto, unfolding(mit_script::specs::Reading::type_word_at))]
 pub(crate) fn next_type(tokens: Ahead<'_>) -> Result<(ColType, Ahead<'_>), Stop<'_>>
-    ensures { Gives result (spec.type_at tokens.entry) }
+    ensures { GivesReading result (spec.type_word_at tokens.entry) }
 {
     let Some((kind, rest)) = tokens.next() else {
         return Err(Stop::Refused(tokens));

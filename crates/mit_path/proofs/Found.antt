@@ -4,7 +4,7 @@ use Rattle.std.specs.List.{position_from}
 use Rattle.std.proofs.lemmas.Bool.{cases_eq, eq-eqb, ne_eqb}
 use Rattle.std.proofs.lemmas.List.{get_or-drop, length-drop}
 use Rattle.mit_path.specs.Kept.{ArePlaces, IsFirstFrom, IsLastBelow}
-use Rattle.mit_path.specs.Views.{next_place}
+use Rattle.mit_path.specs.Views.{first_place_from}
 use Rattle.mit_path.specs.Walks.{last_place}
 
 last_none : (path : List ℕ) (block bound : ℕ) → ((at : ℕ) → at < bound → get_or path at 0 ≡ block → ⊥) → last_place path block bound ≡ None
@@ -48,13 +48,13 @@ first_some test from (x ∷ xs) (suc n) lt is never =
     let here : test x ≡ false = never 0 (omega arith) in
     rw here (first_some test (from + 1) xs n (omega arith) is (λ k below. never (suc k) (omega arith)) ∙ ap Some (omega arith))
 
-next_none : (path : List ℕ) (block from : ℕ) → ((at : ℕ) → from ≤ at → at < length path → get_or path at 0 ≡ block → ⊥) → next_place path block from ≡ None
+next_none : (path : List ℕ) (block from : ℕ) → ((at : ℕ) → from ≤ at → at < length path → get_or path at 0 ≡ block → ⊥) → first_place_from path block from ≡ None
 next_none path block from never =
     first_none (λ entered. eqb entered block) from (drop from path)
     (λ k lt. ne_eqb _ _ (λ is. never (from + k) (omega arith) (omega (arith, length-drop from path)) (sym (get_or-drop from path k 0) ∙ is)))
 
 next_some : (path : List ℕ) (block from place : ℕ) → from ≤ place → place < length path → get_or path place 0 ≡ block
-    → ((at : ℕ) → from ≤ at → at < place → get_or path at 0 ≡ block → ⊥) → next_place path block from ≡ Some place
+    → ((at : ℕ) → from ≤ at → at < place → get_or path at 0 ≡ block → ⊥) → first_place_from path block from ≡ Some place
 next_some path block from place above lt is never =
     let split : from + (place - from) ≡ place = omega arith in
     first_some (λ entered. eqb entered block) from (drop from path) (place - from) (omega (arith, length-drop from path))
@@ -62,7 +62,7 @@ next_some path block from place above lt is never =
     (λ k below. ne_eqb _ _ (λ same. never (from + k) (omega arith) (omega arith) (sym (get_or-drop from path k 0) ∙ same)))
     ∙ ap Some split
 
-pub first_is : (path : List ℕ) (block : ℕ) (places : List ℕ) (from : ℕ) (found : Option ℕ) → ArePlaces path block places → IsFirstFrom places from found → found ≡ next_place path block from
+pub first_is : (path : List ℕ) (block : ℕ) (places : List ℕ) (from : ℕ) (found : Option ℕ) → ArePlaces path block places → IsFirstFrom places from found → found ≡ first_place_from path block from
 first_is path block places from None kept first =
     sym (next_none path block from (λ at above lt is. let there = kept.found at lt is in omega (arith, first there.0 there.1, there.2)))
 first_is path block places from (Some place) kept first =
@@ -72,7 +72,7 @@ first_is path block places from (Some place) kept first =
     omega (arith, first.others there.0 there.1 (omega (arith, there.2)), there.2)))
 
 -- a block that stands nowhere on the path
-pub never_next : (path : List ℕ) (block from : ℕ) → ((at : ℕ) → at < length path → get_or path at 0 ≡ block → ⊥) → next_place path block from ≡ None
+pub never_next : (path : List ℕ) (block from : ℕ) → ((at : ℕ) → at < length path → get_or path at 0 ≡ block → ⊥) → first_place_from path block from ≡ None
 never_next path block from never = next_none path block from (λ at above lt. never at lt)
 
 pub never_last : (path : List ℕ) (block bound : ℕ) → bound ≤ length path → ((at : ℕ) → at < length path → get_or path at 0 ≡ block → ⊥) → last_place path block bound ≡ None

@@ -3,7 +3,7 @@ use Rattle.std.proofs.Common.{◌≡◌, ◌<◌, ◌∙◌, ℕ, List, [], ◌�
 use Rattle.std.specs.Prelude.{◌⊎◌}
 use Rattle.std.proofs.lemmas.List.{get_or_append_left, get_or_push, get_or-set_other, get_or-set_same, length-set, length_push}
 use Rattle.std.proofs.lemmas.Bool.{cases_eq, cases_lt}
-use Rattle.mit_path.specs.Kept.{ArePlaces, Keeps}
+use Rattle.mit_path.specs.Kept.{ArePlaces, KeepsPlaces}
 
 -- an element of a list with one more
 more_read : (xs : List ℕ) (y k : ℕ) → k < length (xs ++ y ∷ []) → ((k < length xs) × (get_or (xs ++ y ∷ []) k 0 ≡ get_or xs k 0)) ⊎ ((k ≡ length xs) × (get_or (xs ++ y ∷ []) k 0 ≡ y))
@@ -42,14 +42,14 @@ entered_elsewhere path places block other apart kept = record {
   ];
 }
 
-pub keeps_none : (places : List (List ℕ)) → ((k : ℕ) → k < length places → get_or places k [] ≡ []) → Keeps [] places
+pub keeps_none : (places : List (List ℕ)) → ((k : ℕ) → k < length places → get_or places k [] ≡ []) → KeepsPlaces [] places
 keeps_none places empty = record {
   known = λ at lt. absurd (omega arith);
   each = λ block lt. rw (empty block lt) (none_yet block);
 }
 
-pub keeps_entered : (path : List ℕ) (places : List (List ℕ)) (block : ℕ) → block < length places → Keeps path places
-    → Keeps (path ++ block ∷ []) (set places block (get_or places block [] ++ length path ∷ []))
+pub keeps_entered : (path : List ℕ) (places : List (List ℕ)) (block : ℕ) → block < length places → KeepsPlaces path places
+    → KeepsPlaces (path ++ block ∷ []) (set places block (get_or places block [] ++ length path ∷ []))
 keeps_entered path places block lt kept = record {
   known = λ at within. elim (more_read path block at within) [
     | inl old ↦ omega (arith, old.1, kept.known at old.0, length-set places block (get_or places block [] ++ length path ∷ []))

@@ -3,7 +3,7 @@ use Rattle.std.proofs.Common.{◌≡◌, ◌≢◌, ◌≤◌, ◌<◌, ℕ, zer
 use Rattle.std.specs.Prelude.{◌&&◌, not}
 use Rattle.std.proofs.lemmas.List.{get_or_append_left}
 use Rattle.mit_path.specs.declared.fate.Fate.TheVariants.{Send, Drop, Undecided}
-use Rattle.mit_path.specs.Choice.{chosen, last_below}
+use Rattle.mit_path.specs.Choice.{chosen_operand, last_below}
 use Rattle.mit_path.specs.Fate.{fate, first_decides, is_among}
 
 last_below-append : (path more operands : List ℕ) (bound : ℕ) → bound ≤ length path → last_below (path ++ more) operands bound ≡ last_below path operands bound
@@ -14,7 +14,7 @@ last_below-append path more operands (suc bound) within =
     let before = last_below-append path more operands bound (omega arith) in
     cc
 
-pub chosen-append : (path more operands : List ℕ) (at : ℕ) (phi : Bool) → at < length path → chosen (path ++ more) operands at phi ≡ chosen path operands at phi
+pub chosen-append : (path more operands : List ℕ) (at : ℕ) (phi : Bool) → at < length path → chosen_operand (path ++ more) operands at phi ≡ chosen_operand path operands at phi
 chosen-append path more operands at true within = last_below-append path more operands at (omega arith)
 chosen-append path more operands at false within = last_below-append path more operands (suc at) (omega arith)
 

@@ -5,7 +5,7 @@ use Rattle.std.proofs.lemmas.Bool.{both_ways, cases_lt, eq-eqb, eqb-true, false_
 use Rattle.std.proofs.lemmas.List.{get_or-drop, length-drop}
 use Rattle.std.proofs.lemmas.Option.{MatchOption-at_some}
 use Rattle.mit_path.specs.declared.fate.Fate.TheVariants.{Send}
-use Rattle.mit_path.specs.Choice.{chosen}
+use Rattle.mit_path.specs.Choice.{chosen_operand}
 use Rattle.mit_path.specs.Fate.{fate, first_decides, is_among}
 use Rattle.mit_path.specs.Last.{HasNone, IsLast}
 use Rattle.mit_path.proofs.Chosen.{last_below_is}
@@ -45,7 +45,7 @@ sent_later path operands siblings at bound operand place complete within up befo
     (is_among_operands operands (get_or path (suc place + k) 0) ∙ ap (is_some {T = ℕ}) (last.last (suc place + k) (omega arith) (omega arith))))
 
 pub chosen_sent : (path operands siblings : List ℕ) (at operand place : ℕ) (phi complete : Bool) → at < length path
-    → ((sibling : ℕ) → is_among siblings sibling ≡ true → is_among operands sibling ≡ true) → chosen path operands at phi ≡ Some (operand, place)
+    → ((sibling : ℕ) → is_among siblings sibling ≡ true → is_among operands sibling ≡ true) → chosen_operand path operands at phi ≡ Some (operand, place)
     → fate path (get_or path place 0) place (get_or path at 0) siblings phi complete ≡ Send
 chosen_sent path operands siblings at operand place true complete within each is =
     let last = MatchOption-at_some (HasNone path operands at) (IsLast path operands at) (operand, place) is (last_below_is path operands at) in

@@ -7,10 +7,10 @@ use Rattle.std.proofs.lemmas.Bool.{both_ways}
 use Rattle.std.proofs.lemmas.List.{get_or-drop, get_or_append_left, get_or_default, length-drop}
 use Rattle.std.proofs.lemmas.List.Folds.{Any-from_list_any}
 use Rattle.std.proofs.lemmas.Option.{MatchOption-at_some}
-use Rattle.mit_path.specs.Choice.{chosen, last_below, operand_of}
+use Rattle.mit_path.specs.Choice.{chosen_operand, last_below, operand_of}
 use Rattle.mit_path.specs.Fate.{is_among, is_superseded}
 use Rattle.mit_path.specs.Last.{HasNone, IsLast}
-use Rattle.mit_path.specs.Views.{next_place}
+use Rattle.mit_path.specs.Views.{first_place_from}
 use Rattle.mit_path.proofs.Chosen.{last_below_is}
 
 -- some element passes where a first one is found
@@ -50,16 +50,16 @@ any_swapped (block ∷ blocks) xs =
     ap (λ (rest : Bool). list_any (λ entered. eqb entered block) xs || rest) (any_swapped blocks xs) ∙ sym (any_either (λ entered. eqb entered block) (is_among blocks) xs)
 
 pub is_superseded_by_next : (path : List ℕ) (source place : ℕ) (siblings : List ℕ) (complete : Bool)
-    → is_superseded path source place siblings complete ≡ (complete || list_any (λ block. is_some (next_place path block (suc place))) (source ∷ siblings))
+    → is_superseded path source place siblings complete ≡ (complete || list_any (λ block. is_some (first_place_from path block (suc place))) (source ∷ siblings))
 is_superseded_by_next path source place siblings complete =
-    ap (λ (later : Bool). complete || later) (sym (any_same (λ block. is_some (next_place path block (suc place))) (λ block. list_any (λ entered. eqb entered block) (drop (suc place) path))
+    ap (λ (later : Bool). complete || later) (sym (any_same (λ block. is_some (first_place_from path block (suc place))) (λ block. list_any (λ entered. eqb entered block) (drop (suc place) path))
     (λ block. is_some_position (λ entered. eqb entered block) (suc place) (drop (suc place) path)) (source ∷ siblings)
     ∙ any_swapped (source ∷ siblings) (drop (suc place) path)))
 
 -- no place after the path chooses what is superseded on it
 pub superseded_unchosen : (path more operands siblings : List ℕ) (source place at operand : ℕ) (phi : Bool) → length path ≤ at
     → ((block : ℕ) → is_among (source ∷ siblings) block ≡ true → is_among operands block ≡ true) → is_superseded path source place siblings false ≡ true
-    → chosen (path ++ more) operands at phi ≢ Some (operand, place)
+    → chosen_operand (path ++ more) operands at phi ≢ Some (operand, place)
 superseded_unchosen path more operands siblings source place at operand phi beyond each superseded is = passed phi is
   where
     by_bound : (bound : ℕ) → length path ≤ bound → last_below (path ++ more) operands bound ≡ Some (operand, place) → ⊥
@@ -73,6 +73,6 @@ superseded_unchosen path more operands siblings source place at operand phi beyo
         is_among_operands operands some.1 ∙ (ap (λ (entered : ℕ). is_some (operand_of operands entered)) (sym block) ∙ ap (is_some {T = ℕ}) (last.last (suc place + some.0) (omega arith) (omega arith))) in
         both_ways (is_among operands some.1) none (each some.1 some.4)
 
-    passed : (kind : Bool) → chosen (path ++ more) operands at kind ≡ Some (operand, place) → ⊥
+    passed : (kind : Bool) → chosen_operand (path ++ more) operands at kind ≡ Some (operand, place) → ⊥
     passed true is = by_bound at beyond is
     passed false is = by_bound (suc at) (omega arith) is

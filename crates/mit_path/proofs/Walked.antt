@@ -7,7 +7,7 @@ use Rattle.std.proofs.lemmas.List.Folds.{list_any-append}
 use Rattle.mit_path.specs.declared.fate.Fate.TheVariants.{Send, Drop}
 use Rattle.mit_path.specs.Choice.{found_or, last_below, operand_of}
 use Rattle.mit_path.specs.Fate.{first_decides, is_among}
-use Rattle.mit_path.specs.Views.{next_place}
+use Rattle.mit_path.specs.Views.{first_place_from}
 use Rattle.mit_path.specs.Walks.{earlier, last_place, later, next_among, whichever}
 
 -- what holds of a value that is there
@@ -138,7 +138,7 @@ earlier_of_two some one both each at (x ∷ xs) =
       ]
     ])
 
-pub next_among_push : (path blocks : List ℕ) (block from : ℕ) → next_among path (blocks ++ block ∷ []) from ≡ earlier (next_among path blocks from) (next_place path block from)
+pub next_among_push : (path blocks : List ℕ) (block from : ℕ) → next_among path (blocks ++ block ∷ []) from ≡ earlier (next_among path blocks from) (first_place_from path block from)
 next_among_push path blocks block from =
     earlier_of_two (is_among blocks) (λ entered. eqb entered block) (is_among (blocks ++ block ∷ []))
     (λ entered. list_any-append (λ other. eqb entered other) blocks (block ∷ []) ∙ ap (λ (last : Bool). is_among blocks entered || last) (or_none (eqb entered block))) from (drop from path)
@@ -147,8 +147,8 @@ next_among_push path blocks block from =
     or_none true = refl
     or_none false = refl
 
-pub next_among_one : (path : List ℕ) (block from : ℕ) → next_among path (block ∷ []) from ≡ next_place path block from
-next_among_one path block from = next_among_push path [] block from ∙ ap (λ (none : Option ℕ). earlier none (next_place path block from)) (nowhere from (drop from path))
+pub next_among_one : (path : List ℕ) (block from : ℕ) → next_among path (block ∷ []) from ≡ first_place_from path block from
+next_among_one path block from = next_among_push path [] block from ∙ ap (λ (none : Option ℕ). earlier none (first_place_from path block from)) (nowhere from (drop from path))
   where
     nowhere : (at : ℕ) (xs : List ℕ) → position_from (is_among []) at xs ≡ None
     nowhere at [] = refl
@@ -179,5 +179,5 @@ walked target sources complete at (x ∷ xs) =
     ]
 
 pub whichever_first : (path : List ℕ) (target : ℕ) (sources : List ℕ) (complete : Bool) (from : ℕ)
-    → whichever (next_place path target from) (next_among path sources from) complete ≡ first_decides target sources complete (drop from path)
+    → whichever (first_place_from path target from) (next_among path sources from) complete ≡ first_decides target sources complete (drop from path)
 whichever_first path target sources complete from = walked target sources complete from (drop from path)

@@ -17,5 +17,5 @@ last_below path operands zero = None
 last_below path operands (suc place) = found_or (operand_of operands (slice_index path place)) place (last_below path operands place)
 
 -- an input takes the bag of the last place at or before `at` that is one of its source's block; a phi, of the last place before `at` that is one of any operand's block
-abbrev pub chosen : List ℕ → List ℕ → ℕ → Bool → Option (ℕ × ℕ)
-chosen path operands at phi = last_below path operands (if phi then at else suc at)
+abbrev pub chosen_operand : List ℕ → List ℕ → ℕ → Bool → Option (ℕ × ℕ)
+chosen_operand path operands at phi = last_below path operands (if phi then at else suc at)

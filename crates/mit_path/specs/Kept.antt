@@ -8,7 +8,7 @@ pub record ArePlaces (path : List ℕ) (block : ℕ) (places : List ℕ) : Type 
   pub found : (at : ℕ) → at < length path → slice_index path at ≡ block → (k : ℕ) × (k < length places) × (slice_index places k ≡ at)
 
 -- the list of each block has its places
-pub record Keeps (path : List ℕ) (places : List (List ℕ)) : Type 0 where
+pub record KeepsPlaces (path : List ℕ) (places : List (List ℕ)) : Type 0 where
   pub known : (at : ℕ) → at < length path → slice_index path at < length places
   pub each : (block : ℕ) → block < length places → ArePlaces path block (slice_index_or places block [])
 

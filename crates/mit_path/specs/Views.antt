@@ -10,5 +10,5 @@ pub record Seen : Type 0 where
   pub blocks : ℕ
 
 -- the first place of a block, at or after this place
-abbrev pub next_place : List ℕ → ℕ → ℕ → Option ℕ
-next_place path block from = position_from (λ entered. entered == block) from (drop from path)
+abbrev pub first_place_from : List ℕ → ℕ → ℕ → Option ℕ
+first_place_from path block from = position_from (λ entered. entered == block) from (drop from path)

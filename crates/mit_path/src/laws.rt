@@ -2,10 +2,10 @@
 ghost use Rattle.std.specs.Prelude.{◌≡◌, ◌≢◌, ◌<◌, ◌≤◌, ℕ, List, ◌++◌, Bool, true, false, length, slice_index, suc, ◌∷◌, ◌||◌};
 ghost use Rattle.std.specs.Option.{MatchOption, is_some};
 ghost use Rattle.std.specs.List.{list_any};
-ghost use Rattle.mit_path.specs.Choice.{chosen};
+ghost use Rattle.mit_path.specs.Choice.{chosen_operand};
 ghost use Rattle.mit_path.specs.Fate.{fate, first_decides, is_among, is_superseded};
 ghost use Rattle.mit_path.specs.Last.{HasNone, IsLast};
-ghost use Rattle.mit_path.specs.Views.{next_place};
+ghost use Rattle.mit_path.specs.Views.{first_place_from};
 
 use crate::fate::Fate;
 
@@ -13,7 +13,7 @@ use crate::fate::Fate;
 /// complete by then. What was superseded stays so.
 pub fn longer_view_law()
     ensures choice { (path more operands : List ℕ) (at : ℕ) (phi : Bool) → at < length path
-        → chosen (path ++ more) operands at phi ≡ chosen path operands at phi }
+        → chosen_operand (path ++ more) operands at phi ≡ chosen_operand path operands at phi }
     ensures fate { (path more : List ℕ) (source place target : ℕ) (siblings : List ℕ) (phi complete : Bool)
         → fate path source place target siblings phi false ≢ Fate.Undecided
         → fate (path ++ more) source place target siblings phi complete
@@ -37,10 +37,10 @@ pub fn undecided_fate_law()
 /// What is chosen is the last place that fits, and there is no choice exactly where no place fits.
 pub fn last_place_law()
     ensures input { (path operands : List ℕ) (at : ℕ)
-        → MatchOption (chosen path operands at false)
+        → MatchOption (chosen_operand path operands at false)
         (HasNone path operands (suc at)) (IsLast path operands (suc at)) }
     ensures phi { (path operands : List ℕ) (at : ℕ)
-        → MatchOption (chosen path operands at true)
+        → MatchOption (chosen_operand path operands at true)
         (HasNone path operands at) (IsLast path operands at) }
 {}
 
@@ -48,7 +48,7 @@ pub fn last_place_law()
 pub fn chosen_is_sent_law()
     ensures { (path operands siblings : List ℕ) (at operand place : ℕ) (phi complete : Bool) → at < length path
         → ((sibling : ℕ) → is_among siblings sibling ≡ true → is_among operands sibling ≡ true)
-        → chosen path operands at phi ≡ Some (operand, place)
+        → chosen_operand path operands at phi ≡ Some (operand, place)
         → fate path (slice_index path place) place (slice_index path at) siblings phi complete ≡ Fate.Send }
 {}
 
@@ -57,10 +57,10 @@ pub fn chosen_is_sent_law()
 pub fn superseded_law()
     ensures by_next { (path : List ℕ) (source place : ℕ) (siblings : List ℕ) (complete : Bool)
         → is_superseded path source place siblings complete
-        ≡ (complete || list_any (λ block. is_some (next_place path block (suc place))) (source ∷ siblings)) }
+        ≡ (complete || list_any (λ block. is_some (first_place_from path block (suc place))) (source ∷ siblings)) }
     ensures unchosen { (path more operands siblings : List ℕ) (source place at operand : ℕ) (phi : Bool)
         → length path ≤ at
         → ((block : ℕ) → is_among (source ∷ siblings) block ≡ true → is_among operands block ≡ true)
         → is_superseded path source place siblings false ≡ true
-        → chosen (path ++ more) operands at phi ≢ Some (operand, place) }
+        → chosen_operand (path ++ more) operands at phi ≢ Some (operand, place) }
 {}

@@ -1,7 +1,7 @@
 ghost use Rattle.std.specs.Prelude.{◌≡◌, ◌<◌, ◌≤◌, [], ◌∷◌, ◌++◌, length, slice_index, suc, IfOk, OnErr, OnOk};
-ghost use Rattle.mit_path.specs.Choice.{chosen};
+ghost use Rattle.mit_path.specs.Choice.{chosen_operand};
 ghost use Rattle.mit_path.specs.Fate.{fate};
-ghost use Rattle.mit_path.specs.Views.{next_place};
+ghost use Rattle.mit_path.specs.Views.{first_place_from};
 ghost use Rattle.mit_path.specs.Walks.{earlier, last_place, later, next_among};
 
 use crate::fate::{Fate, decided};
@@ -19,14 +19,14 @@ pub struct View {
 
 impl Model for View {
     ghost use Rattle.std.specs.Prelude.{length};
-    ghost use Rattle.mit_path.specs.Kept.{Keeps};
+    ghost use Rattle.mit_path.specs.Kept.{KeepsPlaces};
     ghost use Rattle.mit_path.specs.Views.{Seen};
 
     ghost Value = { Seen };
 
     ghost view = { λ view. record { path = view.path.items; blocks = length view.places.items } };
 
-    ghost invariant = { λ view. Keeps view.path.items view.places.items };
+    ghost invariant = { λ view. KeepsPlaces view.path.items view.places.items };
 }
 
 impl View {
@@ -83,7 +83,7 @@ impl View {
     pub fn choose(&self, operands: &[u32], at: u64, phi: bool) -> Option<(u16, u64)>
         requires place { at < length self.now.path }
         requires few { length operands.now ≤ 65536 }
-        ensures { result ≡ chosen self.now.path operands.now at phi }
+        ensures { result ≡ chosen_operand self.now.path operands.now at phi }
     {
         let bound = if phi { at } else { self.after(at) };
         let mut best = None;
@@ -122,7 +122,7 @@ impl View {
 
     /// The first place of the block at or after `from`, where the path has one.
     pub fn next_of(&self, block: u32, from: u64) -> Option<u64>
-        ensures { result ≡ next_place self.now.path block from }
+        ensures { result ≡ first_place_from self.now.path block from }
     {
         let places = self.places.get(block as usize)?;
         places.first_from(from)

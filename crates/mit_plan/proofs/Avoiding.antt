@@ -7,7 +7,7 @@ use Rattle.std.proofs.Math.ListN.{length-set}
 use Rattle.std.proofs.lemmas.Bool.{both_ways, cases_Bool, cases_lt, eq-eqb}
 use Rattle.std.proofs.lemmas.List.{get_or-replicate, get_or-set_same, get_or_past, length-replicate}
 use Rattle.std.proofs.lemmas.List.Elements.{All-cons, All-head, All-nil, All-tail, Contains-append_cases, Contains-append_right}
-use Rattle.mit_path.specs.Choice.{chosen}
+use Rattle.mit_path.specs.Choice.{chosen_operand}
 use Rattle.mit_path.specs.Last.{HasNone, IsLast}
 use Rattle.mit_plan.specs.Deciding.{Tells}
 use Rattle.mit_plan.specs.Paths.{IsPath, next_of}
@@ -18,8 +18,8 @@ use Rattle.mit_plan.proofs.Searches.{marked_from, marked_stays, next_is}
 
 -- the law of what is chosen
 pub record LastPlaces : Type 0 where
-  pub input : (path operands : List ℕ) (at : ℕ) → MatchOption (chosen path operands at false) (HasNone path operands (suc at)) (IsLast path operands (suc at))
-  pub phi : (path operands : List ℕ) (at : ℕ) → MatchOption (chosen path operands at true) (HasNone path operands at) (IsLast path operands at)
+  pub input : (path operands : List ℕ) (at : ℕ) → MatchOption (chosen_operand path operands at false) (HasNone path operands (suc at)) (IsLast path operands (suc at))
+  pub phi : (path operands : List ℕ) (at : ℕ) → MatchOption (chosen_operand path operands at true) (HasNone path operands at) (IsLast path operands at)
 
 -- ---- the blocks of operands are marked, and no others
 
@@ -141,9 +141,9 @@ module _ (plan : PlanOf) (landings : List ℕ) (avoided marks : List Bool) (oper
           ⊎_elim (λ (marked : is_marked avoided (get_or path before 0) ≡ true). absurd (no_operand operands (get_or path before 0) 0 (none before less) (avoid.only (get_or path before 0) marked)))
           (λ (clear : is_marked avoided (get_or path before 0) ≡ false). clear) (cases_Bool (is_marked avoided (get_or path before 0)))
 
-  pub unmarked_chooses : LastPlaces → (phi : Bool) → IsSome (chosen path operands place phi)
-  unmarked_chooses laws true = some_before place (chosen path operands place true) (omega arith) (laws.phi path operands place)
-  unmarked_chooses laws false = some_before (suc place) (chosen path operands place false) (omega arith) (laws.input path operands place)
+  pub unmarked_chooses : LastPlaces → (phi : Bool) → IsSome (chosen_operand path operands place phi)
+  unmarked_chooses laws true = some_before place (chosen_operand path operands place true) (omega arith) (laws.phi path operands place)
+  unmarked_chooses laws false = some_before (suc place) (chosen_operand path operands place false) (omega arith) (laws.input path operands place)
 
 -- a block has itself, where an input may
 own_by : (path : List ℕ) (block place : ℕ) (choice : Option (ℕ × ℕ)) → get_or path place 0 ≡ block
@@ -151,8 +151,8 @@ own_by : (path : List ℕ) (block place : ℕ) (choice : Option (ℕ × ℕ)) �
 own_by path block place (Some found) here last = refl
 own_by path block place None here none = absurd (no_operand (block ∷ []) (get_or path place 0) 0 (none place (omega arith)) (0, omega arith, sym here))
 
-pub own_chooses : LastPlaces → (path : List ℕ) (block place : ℕ) → get_or path place 0 ≡ block → IsSome (chosen path (block ∷ []) place false)
-own_chooses laws path block place here = own_by path block place (chosen path (block ∷ []) place false) here (laws.input path (block ∷ []) place)
+pub own_chooses : LastPlaces → (path : List ℕ) (block place : ℕ) → get_or path place 0 ≡ block → IsSome (chosen_operand path (block ∷ []) place false)
+own_chooses laws path block place here = own_by path block place (chosen_operand path (block ∷ []) place false) here (laws.input path (block ∷ []) place)
 
 -- to a marked block a path leads without a choice at its end
 module _ (plan : PlanOf) (avoided : List Bool) (operands : List ℕ) (block : ℕ) (avoid : Avoids avoided operands) (to : LeadsTo plan avoided block) where
@@ -165,13 +165,13 @@ module _ (plan : PlanOf) (avoided : List Bool) (operands : List ℕ) (block : �
   pub last_below : length to.path - 1 < length to.path
   last_below = let some = to.is_path.starts in omega arith
 
-  pub marked_lacks : LastPlaces → (phi : Bool) → IsSome (chosen to.path operands (length to.path - 1) phi) → ⊥
+  pub marked_lacks : LastPlaces → (phi : Bool) → IsSome (chosen_operand to.path operands (length to.path - 1) phi) → ⊥
   marked_lacks laws true =
-      let place = length to.path - 1 in none_before place (chosen to.path operands place true) (omega arith) (laws.phi to.path operands place)
+      let place = length to.path - 1 in none_before place (chosen_operand to.path operands place true) (omega arith) (laws.phi to.path operands place)
   marked_lacks laws false =
       let place = length to.path - 1 in
       let below = last_below in
-      none_before (suc place) (chosen to.path operands place false) (omega arith) (laws.input to.path operands place)
+      none_before (suc place) (chosen_operand to.path operands place false) (omega arith) (laws.input to.path operands place)
 
 -- ---- nothing is avoided
 

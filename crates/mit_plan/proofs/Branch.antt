@@ -17,8 +17,8 @@ use Rattle.mit_ops.specs.declared.kinds.OpSpec.TheVariants.{Copy, MakeRow, Scala
 use Rattle.mit_ops.specs.declared.leave.Leave.TheVariants.{Branch, End, Jump}
 use Rattle.mit_ops.specs.declared.routes.Route.TheVariants.{Forward, Gather}
 use Rattle.mit_path.specs.Choice.{last_below}
-use Rattle.mit_plan.specs.Held.{History, Job, Part, Run, all_there, entered, history_of, ok, part_of, rows, run}
-use Rattle.mit_plan.specs.Meant.{ending_of, first_or, meant, write_of}
+use Rattle.mit_plan.specs.Held.{History, Job, Part, Run, all_there, as_part, history_of, ok, rows, run, with_place}
+use Rattle.mit_plan.specs.Meant.{first_or, history_ending, meant, write_of}
 use Rattle.mit_plan.specs.Plans.{PlanOf, numbers_where}
 use Rattle.mit_plan.proofs.Computed.{block_of, edge, four_rows, next_place, one_row, op, scalar, start, three_rows, value_row}
 use Rattle.mit_plan.proofs.Stops.{run_stays}
@@ -63,7 +63,7 @@ module _ (one two equal truth row name : Expr) (files : FileMap) (values : Exprs
       (value_row (value_in [] (Truth false ∷ []) truth) (Truth false) values.truth_is)
 
   abbrev decided : History
-  decided = entered start 0 first_rows
+  decided = with_place start 0 first_rows
 
   first_place : run (job 1) 1 ≡ record { history = decided; next = Some 2 }
   unfolding run
@@ -71,7 +71,7 @@ module _ (one two equal truth row name : Expr) (files : FileMap) (values : Exprs
 
   -- block 2
   abbrev copied : History
-  copied = entered decided 2 (scalar (Int (pos 2)) ∷ [])
+  copied = with_place decided 2 (scalar (Int (pos 2)) ∷ [])
 
   copy_is : rows (job 1) decided 2 1 ≡ scalar (Int (pos 2)) ∷ []
   unfolding all_there all_rows bag_of insert_row captured last_below numbers_where over
@@ -89,10 +89,10 @@ module _ (one two equal truth row name : Expr) (files : FileMap) (values : Exprs
   last_are =
       three_rows (job 1) copied 3 (scalar (Int (pos 2))) (scalar (Int (pos 2))) (scalar (Int (pos 2))) refl
       (value_row (value_in [] (Int (pos 2) ∷ []) row) (Int (pos 2)) values.row_is)
-      (ap (λ (v : ValueOrFault). part_of (settled (at_row [] (given v (written ((Int (pos 2) ∷ []) ∷ []))))) ∷ ok [] ∷ []) values.name_is)
+      (ap (λ (v : ValueOrFault). as_part (settled (at_row [] (given v (written ((Int (pos 2) ∷ []) ∷ []))))) ∷ ok [] ∷ []) values.name_is)
 
   abbrev whole_history : History
-  whole_history = entered copied 3 last_rows
+  whole_history = with_place copied 3 last_rows
 
   last_place : run (job 1) 3 ≡ record { history = whole_history; next = None }
   last_place = next_place (job 1) 2 copied 3 last_rows second_place last_are
@@ -104,7 +104,7 @@ module _ (one two equal truth row name : Expr) (files : FileMap) (values : Exprs
   pub branch_is : meant (plan_of one two equal truth row name) files 1 2 ≡ finished (record { name = 122 ∷ []; bag = (Int (pos 2) ∷ []) ∷ [] } ∷ []) 1
   unfolding all_there all_rows bag_of insert_row captured last_below numbers_where over is_legal
   branch_is =
-      ap (ending_of (job 1)) all_of_it
+      ap (history_ending (job 1)) all_of_it
       ∙ ap (λ (v : ValueOrFault). first_or [] (finished (cons_option (write_of (legal_in v) (ok ((Int (pos 2) ∷ []) ∷ []))) []) 1)) values.name_is
 
   -- ---- no decision
@@ -119,4 +119,4 @@ module _ (one two equal truth row name : Expr) (files : FileMap) (values : Exprs
   -- with none it stops at the condition
   pub limit_is : meant (plan_of one two equal truth row name) files 0 2 ≡ stopped (record { statement = 4; decisions = 0; kind = DecisionLimit })
   unfolding all_there all_rows bag_of insert_row captured last_below numbers_where over
-  limit_is = ap (ending_of (job 0)) none_left
+  limit_is = ap (history_ending (job 0)) none_left

@@ -6,7 +6,7 @@ use Rattle.std.specs.Option.{MatchOption}
 use Rattle.std.proofs.lemmas.Bool.{MatchBool-at_false, MatchBool-at_true, cases_lt}
 use Rattle.std.proofs.lemmas.List.{get_or-map, length-map}
 use Rattle.std.proofs.lemmas.List.Elements.{All-from_get_or, All-map}
-use Rattle.mit_path.specs.Choice.{chosen, operand_of}
+use Rattle.mit_path.specs.Choice.{chosen_operand, operand_of}
 use Rattle.mit_path.specs.Last.{HasNone, IsLast}
 use Rattle.mit_plan.specs.Deciding.{ListsStand, PathsStand}
 use Rattle.mit_plan.specs.Paths.{IsPath}
@@ -17,8 +17,8 @@ use Rattle.mit_plan.proofs.Upward.{all_where}
 
 -- the laws of the last place, of inputs and of phis
 pub record PlaceLaws : Type 0 where
-  pub input : (path operands : List ℕ) (at : ℕ) → MatchOption (chosen path operands at false) (HasNone path operands (suc at)) (IsLast path operands (suc at))
-  pub phi : (path operands : List ℕ) (at : ℕ) → MatchOption (chosen path operands at true) (HasNone path operands at) (IsLast path operands at)
+  pub input : (path operands : List ℕ) (at : ℕ) → MatchOption (chosen_operand path operands at false) (HasNone path operands (suc at)) (IsLast path operands (suc at))
+  pub phi : (path operands : List ℕ) (at : ℕ) → MatchOption (chosen_operand path operands at true) (HasNone path operands at) (IsLast path operands at)
 
 -- something holds of an operator when it holds of those that it takes from, of one of them for a phi
 pub record Carries (plan : PlanOf) (P : ℕ → Type 0) : Type 0 where
@@ -123,17 +123,17 @@ input_holds plan P path place op edge plain here before below leads (Some choice
 op_holds : PlaceLaws → (plan : PlanOf) (P : ℕ → Type 0) (path : List ℕ) (place op : ℕ) → ListsStand plan → Carries plan P → op < length plan.ops → (op_at plan op).block ≡ slice_index path place
     → HoldsBefore plan P path place → HoldsBelow plan P path place (op_at plan op).index → Chooses plan path place op → (phi : Bool) → is_phi (op_at plan op) ≡ phi → P op
 op_holds laws plan P path place op stand carries some here before below chooses true is =
-    phi_holds plan P path place op carries some is before (edges_lead plan stand op) (chosen path (source_blocks plan op) place true) (laws.phi path (source_blocks plan op) place)
-    (MatchBool-at_true (IsSome (chosen path (source_blocks plan op) place true)) (All (λ block. IsSome (chosen path (block ∷ []) place false)) (source_blocks plan op)) is chooses)
+    phi_holds plan P path place op carries some is before (edges_lead plan stand op) (chosen_operand path (source_blocks plan op) place true) (laws.phi path (source_blocks plan op) place)
+    (MatchBool-at_true (IsSome (chosen_operand path (source_blocks plan op) place true)) (All (λ block. IsSome (chosen_operand path (block ∷ []) place false)) (source_blocks plan op)) is chooses)
 op_holds laws plan P path place op stand carries some here before below chooses false is =
     let inputs = inputs_of plan op in
-    let each = MatchBool-at_false (IsSome (chosen path (source_blocks plan op) place true)) (All (λ block. IsSome (chosen path (block ∷ []) place false)) (source_blocks plan op)) is chooses in
+    let each = MatchBool-at_false (IsSome (chosen_operand path (source_blocks plan op) place true)) (All (λ block. IsSome (chosen_operand path (block ∷ []) place false)) (source_blocks plan op)) is chooses in
     carries.plain op some is (All-from_get_or (λ (edge : Edge). P edge.from) inputs no_edge (λ k less.
     let edge = get_or inputs k no_edge in
     let e = length-map inputs (source_block plan) in
-    let chose : IsSome (chosen path (source_block plan edge ∷ []) place false) =
-    subst (λ (block : ℕ). IsSome (chosen path (block ∷ []) place false)) (get_or-map (source_block plan) inputs k no_edge 0 less) (each k 0 (omega (arith, e, less))) in
-    input_holds plan P path place op edge is here before below (edges_lead plan stand op k no_edge less) (chosen path (source_block plan edge ∷ []) place false) (laws.input path (source_block plan edge ∷ []) place) chose))
+    let chose : IsSome (chosen_operand path (source_block plan edge ∷ []) place false) =
+    subst (λ (block : ℕ). IsSome (chosen_operand path (block ∷ []) place false)) (get_or-map (source_block plan) inputs k no_edge 0 less) (each k 0 (omega (arith, e, less))) in
+    input_holds plan P path place op edge is here before below (edges_lead plan stand op k no_edge less) (chosen_operand path (source_block plan edge ∷ []) place false) (laws.input path (source_block plan edge ∷ []) place) chose))
 
 -- by the index
 holds_below : PlaceLaws → (plan : PlanOf) (P : ℕ → Type 0) (path : List ℕ) (place : ℕ) → ListsStand plan → PathsStand plan → Carries plan P → IsPath plan path → place < length path

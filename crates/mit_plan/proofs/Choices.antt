@@ -3,7 +3,7 @@ use Rattle.std.proofs.Common.{◌≡◌, ◌∙◌, ◌<◌, ◌+◌, ℕ, zero,
 use Rattle.std.specs.List.{position_from}
 use Rattle.std.specs.Option.{MatchOption, option_map}
 use Rattle.std.proofs.lemmas.List.Elements.{All-head, All-tail}
-use Rattle.mit_path.specs.Choice.{chosen as chosen_operand}
+use Rattle.mit_path.specs.Choice.{chosen_operand}
 use Rattle.mit_path.specs.Last.{HasNone, IsLast}
 use Rattle.mit_plan.specs.Chosen.{Choice, choice_of, chosen, chosen_among, input_edges}
 use Rattle.mit_plan.specs.Plans.{PlanOf, edge_at, is_phi, op_at, source_block}

@@ -10,7 +10,7 @@ use Rattle.mit_ops.specs.Operators.{one_value}
 use Rattle.mit_ops.specs.declared.kinds.OpSpec.{OpSpec}
 use Rattle.mit_ops.specs.declared.leave.Leave.{Leave}
 use Rattle.mit_ops.specs.declared.routes.Route.{Route}
-use Rattle.mit_plan.specs.Held.{History, Job, Part, Run, entered, follows, goes_on, ok, part, part_of, rows, run}
+use Rattle.mit_plan.specs.Held.{History, Job, Part, Run, as_part, follows, grown_run, ok, part, rows, run, with_place}
 use Rattle.mit_plan.specs.Plans.{block_at}
 use Rattle.mit_plan.specs.declared.plan.Edge.{Edge}
 use Rattle.mit_plan.specs.declared.plan.PlanBlock.{PlanBlock}
@@ -34,20 +34,20 @@ abbrev pub scalar : Value → List Part
 scalar value = ok ((value ∷ []) ∷ []) ∷ ok [] ∷ []
 
 -- what an expression with this value makes
-pub value_row : (found : ValueOrFault) (value : Value) → found ≡ gives value → part_of (settled (at_row [] (given found one_value))) ∷ ok [] ∷ [] ≡ scalar value
+pub value_row : (found : ValueOrFault) (value : Value) → found ≡ gives value → as_part (settled (at_row [] (given found one_value))) ∷ ok [] ∷ [] ≡ scalar value
 unfolding bag_of insert_row
-value_row found value is = ap (λ (v : ValueOrFault). part_of (settled (at_row [] (given v one_value))) ∷ ok [] ∷ []) is
+value_row found value is = ap (λ (v : ValueOrFault). as_part (settled (at_row [] (given v one_value))) ∷ ok [] ∷ []) is
 
 -- the row of an operator behind those of the operators before it
 abbrev pub next : Job → History → ℕ → List (List Part) → List Part
-next job history block before = map (part job (entered history block before) (length history.path) (length before)) (range_with_len 0 job.partitions)
+next job history block before = map (part job (with_place history block before) (length history.path) (length before)) (range_with_len 0 job.partitions)
 
 next_row : (job : Job) (history : History) (block index : ℕ) (before : List (List Part)) (row : List Part) → length before ≡ index → rows job history block index ≡ before
     → next job history block before ≡ row → rows job history block (suc index) ≡ before ++ row ∷ []
 unfolding rows
 next_row job history block index before row size is made =
-    ap (λ (some : List (List Part)). some ++ map (part job (entered history block some) (length history.path) index) (range_with_len 0 job.partitions) ∷ []) is
-    ∙ ap (λ (k : ℕ). before ++ map (part job (entered history block before) (length history.path) k) (range_with_len 0 job.partitions) ∷ []) (sym size)
+    ap (λ (some : List (List Part)). some ++ map (part job (with_place history block some) (length history.path) index) (range_with_len 0 job.partitions) ∷ []) is
+    ∙ ap (λ (k : ℕ). before ++ map (part job (with_place history block before) (length history.path) k) (range_with_len 0 job.partitions) ∷ []) (sym size)
     ∙ ap (λ (one : List Part). before ++ one ∷ []) made
 
 -- blocks of one, two, three and four operators
@@ -70,11 +70,11 @@ four_rows job history block a b c d is more later last = next_row job history bl
 
 pub next_place : (job : Job) (places : ℕ) (history : History) (block : ℕ) (made : List (List Part)) → run job places ≡ record { history = history; next = Some block }
     → rows job history block (block_at job.plan block).count ≡ made
-    → run job (suc places) ≡ record { history = entered history block made; next = follows job (entered history block made) (length history.path) (block_at job.plan block) (block_at job.plan block).leave }
+    → run job (suc places) ≡ record { history = with_place history block made; next = follows job (with_place history block made) (length history.path) (block_at job.plan block) (block_at job.plan block).leave }
 unfolding run
 next_place job places history block made is all =
-    ap (λ (state : Run). goes_on job state.history state.next) is
-    ∙ ap (λ (some : List (List Part)). record { history = entered history block some; next = follows job (entered history block some) (length history.path) (block_at job.plan block) (block_at job.plan block).leave }) all
+    ap (λ (state : Run). grown_run job state.history state.next) is
+    ∙ ap (λ (some : List (List Part)). record { history = with_place history block some; next = follows job (with_place history block some) (length history.path) (block_at job.plan block) (block_at job.plan block).leave }) all
 
 abbrev pub start : History
 start = record { path = []; parts = [] }

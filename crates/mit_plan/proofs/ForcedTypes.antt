@@ -16,7 +16,7 @@ use Rattle.mit_ops.specs.declared.types.VarType.{VarType}
 use Rattle.mit_plan.specs.Deciding.{ListsStand}
 use Rattle.mit_plan.specs.Inferred.{Agree, AreInferred, GivesType, IsForced, LacksInputs, inferred_at, inferred_inputs}
 use Rattle.mit_plan.specs.Plans.{PlanOf, edge_at, edges_to, inputs_of, is_phi, no_edge, op_at}
-use Rattle.mit_plan.specs.Types.{AreTypes, HasOperands, IsTyped, source_types, type_at}
+use Rattle.mit_plan.specs.Types.{AreTypes, HasOperands, IsTypedOperator, source_types, type_at}
 use Rattle.mit_plan.specs.Valid.{HasTypes, inputs_wanted}
 use Rattle.mit_plan.specs.declared.plan.Edge.{Edge}
 
@@ -45,7 +45,7 @@ phi_forced plan inferred op k numbers type are some phi same below is =
     let source = are.each (edge_at plan number).from type is in
     record {
       only = λ types fit.
-          let operands = MatchBool-at_true (HasOperands plan types op) (IsTyped plan types op) phi (fit.each op some) in
+          let operands = MatchBool-at_true (HasOperands plan types op) (IsTypedOperator plan types op) phi (fit.each op some) in
           sym (operand_at plan types op k numbers operands same below) ∙ source.only types fit;
       fits = λ plain types agree same. absurd cc;
       wide = source.wide;
@@ -94,7 +94,7 @@ gives_type : (plan : PlanOf) (inferred : List (Option VarType)) (types : List Va
     → is_phi (op_at plan op) ≡ false → inferred_inputs plan inferred op ≡ map Some sources → GivesType (op_at plan op).spec sources (type_at types op)
 gives_type plan inferred types op sources are fit some plain is =
     let spec = (op_at plan op).spec in
-    let typed : IsTyped plan types op = MatchBool-at_false (HasOperands plan types op) (IsTyped plan types op) plain (fit.each op some) in
+    let typed : IsTypedOperator plan types op = MatchBool-at_false (HasOperands plan types op) (IsTypedOperator plan types op) plain (fit.each op some) in
     let same = sources_are inferred types (inputs_of plan op) sources (all_agree plan inferred types are fit) is in
     record {
       captures = typed.captures;
@@ -104,7 +104,7 @@ gives_type plan inferred types op sources are fit some plain is =
 
 -- what it gives fits
 fits_type : (plan : PlanOf) (types : List VarType) (op : ℕ) (sources : List VarType) (type : VarType) → source_types types (inputs_of plan op) ≡ sources → type_at types op ≡ type
-    → GivesType (op_at plan op).spec sources type → IsTyped plan types op
+    → GivesType (op_at plan op).spec sources type → IsTypedOperator plan types op
 fits_type plan types op sources type from same given =
     let spec = (op_at plan op).spec in
     record {

@@ -5,7 +5,7 @@ use Rattle.std.specs.List.{range_with_len}
 use Rattle.std.proofs.lemmas.List.{flat_map_more, length_push, take-append-le}
 use Rattle.std.proofs.lemmas.List.Elements.{filter_map-append}
 use Rattle.mit_ops.specs.Operators.{name_written}
-use Rattle.mit_path.specs.Choice.{chosen as chosen_operand}
+use Rattle.mit_path.specs.Choice.{chosen_operand}
 use Rattle.mit_plan.specs.Chosen.{Choice, chosen, chosen_among, input_edges, input_numbers}
 use Rattle.mit_plan.specs.Explained.{Extends}
 use Rattle.mit_plan.specs.Held.{History, Job, all_there, decisions_before, enters, held, list_of, lists_of, op_of, rows}

@@ -6,7 +6,7 @@ use Rattle.std.proofs.lemmas.Bool.{cases_lt}
 use Rattle.std.proofs.lemmas.List.{append-nil, get_or_append_left, get_or_push, length_push}
 use Rattle.std.proofs.lemmas.List.FromFn.{get_or-map-range_with_len}
 use Rattle.mit_plan.specs.Explained.{Explained, Extends}
-use Rattle.mit_plan.specs.Held.{History, Job, Part, entered, enters, goes_on, held, part, row_at, rows, run, void}
+use Rattle.mit_plan.specs.Held.{History, Job, Part, enters, grown_run, held, part, row_at, rows, run, void, with_place}
 use Rattle.mit_plan.specs.Plans.{block_at}
 use Rattle.mit_plan.proofs.Choices.{PathLaws}
 use Rattle.mit_plan.proofs.Upward.{EdgesGoUp}
@@ -38,7 +38,7 @@ held_stays one other place index partition longer below =
 -- ---- runs
 
 -- there are as many rows of parts as places
-goes_on_even : (job : Job) (history : History) (next : Option ℕ) → length history.parts ≡ length history.path → length (goes_on job history next).history.parts ≡ length (goes_on job history next).history.path
+goes_on_even : (job : Job) (history : History) (next : Option ℕ) → length history.parts ≡ length history.path → length (grown_run job history next).history.parts ≡ length (grown_run job history next).history.path
 goes_on_even job history None even = even
 goes_on_even job history (Some block) even =
     length_push history.parts (rows job history block (block_at job.plan block).count) ∙ ap (λ n. n + 1) even ∙ sym (length_push history.path block)
@@ -48,10 +48,10 @@ unfolding run
 run_even job zero = refl
 run_even job (suc places) = goes_on_even job (run job places).history (run job places).next (run_even job places)
 
-pub entered_extends : (history : History) (block : ℕ) (made : List (List Part)) → Extends history (entered history block made)
+pub entered_extends : (history : History) (block : ℕ) (made : List (List Part)) → Extends history (with_place history block made)
 entered_extends history block made = record { more = block ∷ []; made = made ∷ []; path = refl; parts = refl }
 
-goes_on_extends : (job : Job) (history : History) (next : Option ℕ) → Extends history (goes_on job history next).history
+goes_on_extends : (job : Job) (history : History) (next : Option ℕ) → Extends history (grown_run job history next).history
 goes_on_extends job history None = extends_itself history
 goes_on_extends job history (Some block) = entered_extends history block (rows job history block (block_at job.plan block).count)
 
@@ -82,12 +82,12 @@ rows_size job history block zero = refl
 rows_size job history block (suc many) =
     let before = rows job history block many in
     let size = rows_size job history block many in
-    let pushed = length_push before (map (part job (entered history block before) (length history.path) many) (range_with_len 0 job.partitions)) in
+    let pushed = length_push before (map (part job (with_place history block before) (length history.path) many) (range_with_len 0 job.partitions)) in
     omega (arith, size, pushed)
 
 -- the parts of one operator, behind those before it
 abbrev row_of : Job → History → ℕ → ℕ → List Part
-row_of job history block index = map (part job (entered history block (rows job history block index)) (length history.path) index) (range_with_len 0 job.partitions)
+row_of job history block index = map (part job (with_place history block (rows job history block index)) (length history.path) index) (range_with_len 0 job.partitions)
 
 rows_at_by : (job : Job) (history : History) (block many index : ℕ) → (index < many → get_or (rows job history block many) index [] ≡ row_of job history block index) → index < suc many
     → (index < many) ⊎ (many ≤ index) → get_or (rows job history block many ++ row_of job history block many ∷ []) index [] ≡ row_of job history block index
@@ -108,13 +108,13 @@ rows_at job history block (suc many) index below = rows_at_by job history block 
 
 -- the parts of the place that was entered last
 held_last : (history : History) (block : ℕ) (made : List (List Part)) (place index partition : ℕ) → length history.parts ≡ place
-    → held (entered history block made) place index partition ≡ get_or (get_or made index []) partition void
+    → held (with_place history block made) place index partition ≡ get_or (get_or made index []) partition void
 held_last history block made place index partition size =
     ap (λ (one : List (List Part)). get_or (get_or one index []) partition void) (get_or_push history.parts made [] place size)
 
 -- an operator that runs now sees what the whole place holds before it
 before_last : (job : Job) (history : History) (block many index place : ℕ) → length history.parts ≡ length history.path → length history.path ≡ place → index < many
-    → SameBefore (entered history block (rows job history block index)) (entered history block (rows job history block many)) place index
+    → SameBefore (with_place history block (rows job history block index)) (with_place history block (rows job history block many)) place index
 before_last job history block many index place even size below =
     let few = rows job history block index in
     let all = rows job history block many in
@@ -123,8 +123,8 @@ before_last job history block many index place even size below =
       choice = λ operands phi. refl;
       earlier = λ at x p less.
           let within : at < length history.parts = omega (arith, even, size, less) in
-          sym (held_stays history (entered history block few) at x p (entered_extends history block few) within)
-          ∙ held_stays history (entered history block all) at x p (entered_extends history block all) within;
+          sym (held_stays history (with_place history block few) at x p (entered_extends history block few) within)
+          ∙ held_stays history (with_place history block all) at x p (entered_extends history block all) within;
       here = λ x p less.
           held_last history block few place x p (even ∙ size)
           ∙ ap (λ (cells : List Part). get_or cells p void) (rows_at job history block index x less ∙ sym (rows_at job history block many x (omega (arith, less, below))))
@@ -147,8 +147,8 @@ explained_here laws job history block index even up stands =
     let goes_up = up (get_or (history.path ++ block ∷ []) place 0) index (subst (λ (b : ℕ). index < (block_at job.plan b).count) (sym own) stands) in
     ap (λ (one : List (List Part)). get_or one index []) (get_or_push history.parts all [] place even)
     ∙ rows_at job history block (block_at job.plan block).count index stands
-    ∙ map_same (part job (entered history block few) place index) (part job (entered history block all) place index) (range_with_len 0 job.partitions)
-    (λ p. same_part laws job (entered history block few) (entered history block all) place index p
+    ∙ map_same (part job (with_place history block few) place index) (part job (with_place history block all) place index) (range_with_len 0 job.partitions)
+    (λ p. same_part laws job (with_place history block few) (with_place history block all) place index p
     (before_last job history block (block_at job.plan block).count index place even refl stands) goes_up)
 
 explained_enters : PathLaws → (job : Job) (history : History) (block : ℕ) → length history.parts ≡ length history.path → EdgesGoUp job.plan → Explained job history → Explained job (enters job history block)
@@ -175,7 +175,7 @@ explained_enters laws job history block even up explained place index below stan
         subst (λ (at : ℕ). row_at (enters job history block) at index ≡ map (part job (enters job history block) at index) (range_with_len 0 job.partitions)) e
         (explained_here laws job history block index even up (subst (λ (b : ℕ). index < (block_at job.plan b).count) own stands))
 
-explained_goes_on : PathLaws → (job : Job) (history : History) (next : Option ℕ) → length history.parts ≡ length history.path → EdgesGoUp job.plan → Explained job history → Explained job (goes_on job history next).history
+explained_goes_on : PathLaws → (job : Job) (history : History) (next : Option ℕ) → length history.parts ≡ length history.path → EdgesGoUp job.plan → Explained job history → Explained job (grown_run job history next).history
 explained_goes_on laws job history None even up explained = explained
 explained_goes_on laws job history (Some block) even up explained = explained_enters laws job history block even up explained
 

@@ -7,7 +7,7 @@ use Rattle.std.proofs.lemmas.List.FromFn.{get_or-range_with_len, length-range_wi
 use Rattle.mit_ops.specs.declared.leave.Leave.{Leave}
 use Rattle.mit_ops.specs.declared.leave.Leave.TheVariants.{Jump, Branch, End}
 use Rattle.mit_plan.specs.Deciding.{Tells}
-use Rattle.mit_plan.specs.Jumping.{AreLed, LeadsTo, is_no_jump, jumped, next_after}
+use Rattle.mit_plan.specs.Jumping.{AreLed, JumpsTo, is_no_jump, jumped, next_after}
 use Rattle.mit_plan.specs.Plans.{PlanOf, block_at}
 use Rattle.mit_plan.specs.Valid.{JumpsEnd, LeavesNameBlocks, NamesBlocks, by_leave, settles}
 use Rattle.mit_plan.proofs.Told.{Tells-like}
@@ -29,7 +29,7 @@ led_none plan table is =
         ap (λ (list : List ℕ). get_or list at d) is ∙ get_or-range_with_len 0 (length plan.blocks) at d below ∙ e
 
 -- two ways on end
-joins : (plan : PlanOf) (few more from over to : ℕ) → LeadsTo plan few from over → LeadsTo plan more over to → LeadsTo plan (few + more) from to
+joins : (plan : PlanOf) (few more from over to : ℕ) → JumpsTo plan few from over → JumpsTo plan more over to → JumpsTo plan (few + more) from to
 joins plan few more from over to first second rest =
     let e : few + more + suc rest ≡ few + suc (more + rest) = omega arith in
     let g : suc (more + rest) ≡ more + suc rest = omega arith in
@@ -46,7 +46,7 @@ led_joined plan few more first second table one other is = record {
   leads = λ block below.
       let e = there block 0 (omega (arith, below, one.many)) in
       let inside = one.within block 0 (omega (arith, below, one.many)) in
-      subst (LeadsTo plan (few + more) block) (sym e) (joins plan few more block (get_or first block 0) _ (one.leads block below) (other.leads (get_or first block 0) inside));
+      subst (JumpsTo plan (few + more) block) (sym e) (joins plan few more block (get_or first block 0) _ (one.leads block below) (other.leads (get_or first block 0) inside));
 }
   where
     size : length table ≡ length plan.blocks
@@ -69,7 +69,7 @@ left_by plan more block (Jump next) is = refl
 left_by plan more block (Branch on_true on_false) is = sym (ap (by_leave (settles plan more)) is)
 left_by plan more block End is = sym (ap (by_leave (settles plan more)) is)
 
-leads_once : (plan : PlanOf) (block : ℕ) → LeadsTo plan 1 block (next_after plan block)
+leads_once : (plan : PlanOf) (block : ℕ) → JumpsTo plan 1 block (next_after plan block)
 unfolding settles
 leads_once plan block more =
     let e : 1 + suc more ≡ suc (suc more) = omega arith in
@@ -91,7 +91,7 @@ led_once_more plan steps table longer names led is = record {
       (jumps_within (length plan.blocks) (get_or table at 0) (block_at plan (get_or table at 0)).leave (names (get_or table at 0) inside) inside);
   leads = λ block below.
       let e = there block 0 (omega (arith, below, led.many)) in
-      subst (LeadsTo plan (steps + 1) block) (sym e)
+      subst (JumpsTo plan (steps + 1) block) (sym e)
       (joins plan steps 1 block (get_or table block 0) _ (led.leads block below) (leads_once plan (get_or table block 0)));
 }
   where

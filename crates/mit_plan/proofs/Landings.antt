@@ -8,7 +8,7 @@ use Rattle.mit_ops.specs.declared.leave.Leave.{Leave}
 use Rattle.mit_ops.specs.declared.leave.Leave.TheVariants.{Jump, Branch, End}
 use Rattle.mit_plan.specs.Deciding.{ListsStand}
 use Rattle.mit_plan.specs.Plans.{EachBlock, PlanOf, block_at, op_at}
-use Rattle.mit_plan.specs.Searched.{Hops, Skips, Stays, Walks, WalksTo, landing_of, step_of, walk}
+use Rattle.mit_plan.specs.Searched.{Hops, Skips, Stays, Walks, WalksTo, after_steps, jump_step, landing_of}
 use Rattle.mit_plan.specs.Valid.{LeavesNameBlocks, NamesBlocks, RangesFollow, by_leave, settles}
 
 -- ---- a step
@@ -17,29 +17,29 @@ use Rattle.mit_plan.specs.Valid.{LeavesNameBlocks, NamesBlocks, RangesFollow, by
 record StepsOn (plan : PlanOf) (block : ℕ) : Type 0 where
   next : ℕ
   jumps : (block_at plan block).leave ≡ Jump next
-  is : step_of plan block ≡ next
+  is : jump_step plan block ≡ next
 
-cases_step : (plan : PlanOf) (block : ℕ) → (step_of plan block ≡ block) ⊎ StepsOn plan block
+cases_step : (plan : PlanOf) (block : ℕ) → (jump_step plan block ≡ block) ⊎ StepsOn plan block
 cases_step plan block = by_count (eqb (block_at plan block).count 0) refl
   where
-    by_jump : (leave : Leave) → (block_at plan block).leave ≡ leave → eqb (block_at plan block).count 0 ≡ true → (step_of plan block ≡ block) ⊎ StepsOn plan block
+    by_jump : (leave : Leave) → (block_at plan block).leave ≡ leave → eqb (block_at plan block).count 0 ≡ true → (jump_step plan block ≡ block) ⊎ StepsOn plan block
     by_jump (Jump next) is none = inr (record { next = next; jumps = is; is = rw (none, is) refl })
     by_jump (Branch on_true on_false) is none = inl (rw (none, is) refl)
     by_jump End is none = inl (rw (none, is) refl)
 
-    by_count : (none : Bool) → eqb (block_at plan block).count 0 ≡ none → (step_of plan block ≡ block) ⊎ StepsOn plan block
+    by_count : (none : Bool) → eqb (block_at plan block).count 0 ≡ none → (jump_step plan block ≡ block) ⊎ StepsOn plan block
     by_count true none = by_jump (block_at plan block).leave refl none
     by_count false some = inl (rw some refl)
 
 -- it leads to a block, and stays at a block of an operator
-step_within : (plan : PlanOf) (block : ℕ) → LeavesNameBlocks plan → block < length plan.blocks → step_of plan block < length plan.blocks
+step_within : (plan : PlanOf) (block : ℕ) → LeavesNameBlocks plan → block < length plan.blocks → jump_step plan block < length plan.blocks
 step_within plan block leaves below = by_step (cases_step plan block)
   where
-    by_step : (step_of plan block ≡ block) ⊎ StepsOn plan block → step_of plan block < length plan.blocks
+    by_step : (jump_step plan block ≡ block) ⊎ StepsOn plan block → jump_step plan block < length plan.blocks
     by_step (inl stays) = rw stays below
     by_step (inr on) = rw on.is (subst (λ (leave : Leave). NamesBlocks (length plan.blocks) leave) on.jumps (leaves block below))
 
-own_step : (plan : PlanOf) (op : ℕ) → RangesFollow plan → op < length plan.ops → step_of plan (op_at plan op).block ≡ (op_at plan op).block
+own_step : (plan : PlanOf) (op : ℕ) → RangesFollow plan → op < length plan.ops → jump_step plan (op_at plan op).block ≡ (op_at plan op).block
 own_step plan op ranges below =
     let stands = ranges.each op below in
     let block = block_at plan (op_at plan op).block in
@@ -48,30 +48,30 @@ own_step plan op ranges below =
 
 -- ---- steps
 
-walk-add : (plan : PlanOf) (steps more block : ℕ) → walk plan (steps + more) block ≡ walk plan more (walk plan steps block)
-unfolding walk
-walk-add plan zero more block = let e : more ≡ 0 + more = omega arith in subst (λ (n : ℕ). walk plan n block ≡ walk plan more block) e refl
+walk-add : (plan : PlanOf) (steps more block : ℕ) → after_steps plan (steps + more) block ≡ after_steps plan more (after_steps plan steps block)
+unfolding after_steps
+walk-add plan zero more block = let e : more ≡ 0 + more = omega arith in subst (λ (n : ℕ). after_steps plan n block ≡ after_steps plan more block) e refl
 walk-add plan (suc steps) more block =
     let e : suc (steps + more) ≡ suc steps + more = omega arith in
-    subst (λ (n : ℕ). walk plan n block ≡ walk plan more (walk plan steps (step_of plan block))) e (walk-add plan steps more (step_of plan block))
+    subst (λ (n : ℕ). after_steps plan n block ≡ after_steps plan more (after_steps plan steps (jump_step plan block))) e (walk-add plan steps more (jump_step plan block))
 
-walk_within : (plan : PlanOf) (steps block : ℕ) → LeavesNameBlocks plan → block < length plan.blocks → walk plan steps block < length plan.blocks
-unfolding walk
+walk_within : (plan : PlanOf) (steps block : ℕ) → LeavesNameBlocks plan → block < length plan.blocks → after_steps plan steps block < length plan.blocks
+unfolding after_steps
 walk_within plan zero block leaves below = below
-walk_within plan (suc steps) block leaves below = walk_within plan steps (step_of plan block) leaves (step_within plan block leaves below)
+walk_within plan (suc steps) block leaves below = walk_within plan steps (jump_step plan block) leaves (step_within plan block leaves below)
 
-walk_stays : (plan : PlanOf) (steps block : ℕ) → step_of plan block ≡ block → walk plan steps block ≡ block
-unfolding walk
+walk_stays : (plan : PlanOf) (steps block : ℕ) → jump_step plan block ≡ block → after_steps plan steps block ≡ block
+unfolding after_steps
 walk_stays plan zero block stays = refl
-walk_stays plan (suc steps) block stays = ap (λ (one : ℕ). walk plan steps one) stays ∙ walk_stays plan steps block stays
+walk_stays plan (suc steps) block stays = ap (λ (one : ℕ). after_steps plan steps one) stays ∙ walk_stays plan steps block stays
 
-walk_on : (plan : PlanOf) (steps block next : ℕ) → step_of plan block ≡ next → walk plan (suc steps) block ≡ walk plan steps next
-unfolding walk
-walk_on plan steps block next is = ap (λ (one : ℕ). walk plan steps one) is
+walk_on : (plan : PlanOf) (steps block next : ℕ) → jump_step plan block ≡ next → after_steps plan (suc steps) block ≡ after_steps plan steps next
+unfolding after_steps
+walk_on plan steps block next is = ap (λ (one : ℕ). after_steps plan steps one) is
 
 -- after enough steps more of them change nothing
-settled_on : (plan : PlanOf) (block next bound steps more : ℕ) → settles plan bound next ≡ true → bound ≤ steps → bound ≤ more → step_of plan block ≡ next
-    → ((steps more : ℕ) → bound ≤ suc steps → bound ≤ suc more → walk plan steps next ≡ walk plan more next) → walk plan steps block ≡ walk plan more block
+settled_on : (plan : PlanOf) (block next bound steps more : ℕ) → settles plan bound next ≡ true → bound ≤ steps → bound ≤ more → jump_step plan block ≡ next
+    → ((steps more : ℕ) → bound ≤ suc steps → bound ≤ suc more → after_steps plan steps next ≡ after_steps plan more next) → after_steps plan steps block ≡ after_steps plan more block
 unfolding settles
 settled_on plan block next zero steps more later enough also is same = absurd cc
 settled_on plan block next (suc bound) zero more later enough also is same = absurd (omega (arith, enough))
@@ -79,14 +79,14 @@ settled_on plan block next (suc bound) (suc steps) zero later enough also is sam
 settled_on plan block next (suc bound) (suc steps) (suc more) later enough also is same =
     walk_on plan steps block next is ∙ same steps more enough also ∙ sym (walk_on plan more block next is)
 
-settled_walk : (plan : PlanOf) (bound steps more block : ℕ) → settles plan bound block ≡ true → bound ≤ suc steps → bound ≤ suc more → walk plan steps block ≡ walk plan more block
+settled_walk : (plan : PlanOf) (bound steps more block : ℕ) → settles plan bound block ≡ true → bound ≤ suc steps → bound ≤ suc more → after_steps plan steps block ≡ after_steps plan more block
 unfolding settles
 settled_walk plan zero steps more block settled enough also = absurd cc
 settled_walk plan (suc bound) steps more block settled enough also =
     by_step (λ next later steps more enough also. settled_walk plan bound steps more next later enough also) (cases_step plan block)
   where
-    by_step : ((next : ℕ) → settles plan bound next ≡ true → (steps more : ℕ) → bound ≤ suc steps → bound ≤ suc more → walk plan steps next ≡ walk plan more next)
-        → (step_of plan block ≡ block) ⊎ StepsOn plan block → walk plan steps block ≡ walk plan more block
+    by_step : ((next : ℕ) → settles plan bound next ≡ true → (steps more : ℕ) → bound ≤ suc steps → bound ≤ suc more → after_steps plan steps next ≡ after_steps plan more next)
+        → (jump_step plan block ≡ block) ⊎ StepsOn plan block → after_steps plan steps block ≡ after_steps plan more block
     by_step same (inl stays) = walk_stays plan steps block stays ∙ sym (walk_stays plan more block stays)
     by_step same (inr on) =
         let later : settles plan bound on.next ≡ true = ap (λ (leave : Leave). by_leave (settles plan bound) leave) (sym on.jumps) ∙ settled in
@@ -104,8 +104,8 @@ set_each P landings block landing below here one there = by_same (cases_eq one b
     by_same (inr other) = rw (get_or-set_other landings block one landing 0 other) (there other)
 
 -- landings of one step
-pub walks_one : (plan : PlanOf) (landings : List ℕ) → length landings ≡ length plan.blocks → EachBlock plan (λ block. landing_of landings block ≡ step_of plan block) → Walks plan 1 landings
-unfolding walk
+pub walks_one : (plan : PlanOf) (landings : List ℕ) → length landings ≡ length plan.blocks → EachBlock plan (λ block. landing_of landings block ≡ jump_step plan block) → Walks plan 1 landings
+unfolding after_steps
 walks_one plan landings many each = record { many = many; each = λ block below. record { steps = 1; enough = omega arith; is = each block below } }
 
 -- landings are blocks, and the landing of a landing is twice as many steps on
@@ -119,7 +119,7 @@ twice plan least landings leaves walks block below =
     let far = walks.each (landing_of landings block) (landing_within plan least landings leaves walks block below) in record {
       steps = near.steps + far.steps;
       enough = omega (arith, near.enough, far.enough);
-      is = far.is ∙ ap (λ (one : ℕ). walk plan far.steps one) near.is ∙ sym (walk-add plan near.steps far.steps block);
+      is = far.is ∙ ap (λ (one : ℕ). after_steps plan far.steps one) near.is ∙ sym (walk-add plan near.steps far.steps block);
     }
 
 fewer : (plan : PlanOf) (least block landing : ℕ) → WalksTo plan (least + least) block landing → WalksTo plan least block landing
@@ -153,7 +153,7 @@ walks_skip plan least landings lists walks enough = record {
       to.is ∙ walk_stays plan to.steps (op_at plan op).block (own_step plan op lists.ranges below);
 }
   where
-    by_step : (block : ℕ) → block < length plan.blocks → (step_of plan block ≡ block) ⊎ StepsOn plan block → (landing_of landings block ≡ block) ⊎ Hops plan landings block
+    by_step : (block : ℕ) → block < length plan.blocks → (jump_step plan block ≡ block) ⊎ StepsOn plan block → (landing_of landings block ≡ block) ⊎ Hops plan landings block
     by_step block below (inl stays) = let to = walks.each block below in inl (to.is ∙ walk_stays plan to.steps block stays)
     by_step block below (inr on) =
         let there : on.next < length plan.blocks = subst (λ (leave : Leave). NamesBlocks (length plan.blocks) leave) on.jumps (lists.leaves block below) in

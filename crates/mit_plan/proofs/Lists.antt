@@ -6,7 +6,7 @@ use Rattle.std.proofs.lemmas.List.{take_more, get_or-replicate, get_or-set_same,
 use Rattle.std.proofs.lemmas.Option.{get_or_from_slice_get, slice_get_within}
 use Rattle.std.proofs.lemmas.Bool.{cases_eq, cases_lt, eq-eqb, le-ltb, lt-ltb, ne_eqb}
 use Rattle.mit_plan.specs.Plans.{numbers_where}
-use Rattle.mit_plan.specs.Indexed.{AreLists, listed}
+use Rattle.mit_plan.specs.Indexed.{AreLists, added_to_list}
 use Rattle.mit_plan.specs.declared.plan.Edge.{Edge}
 use Rattle.mit_plan.proofs.Numbers.{numbers_where-below, numbers_where-push, one_where}
 
@@ -48,7 +48,7 @@ each-set name_of count edges edge lists before within op below =
 
 inside : (name_of : Edge → ℕ) (count : ℕ) (edges : List Edge) (edge : Edge) (lists : List (List ℕ))
     → AreLists name_of count edges lists → name_of edge < length lists
-    → AreLists name_of count (edges ++ edge ∷ []) (listed lists (name_of edge) (length edges))
+    → AreLists name_of count (edges ++ edge ∷ []) (added_to_list lists (name_of edge) (length edges))
 inside name_of count edges edge lists before within =
     rw (lt-ltb (name_of edge) (length lists) within) (record {
       many = length-set lists (name_of edge) _ ∙ before.many;
@@ -57,7 +57,7 @@ inside name_of count edges edge lists before within =
 
 outside : (name_of : Edge → ℕ) (count : ℕ) (edges : List Edge) (edge : Edge) (lists : List (List ℕ))
     → AreLists name_of count edges lists → length lists ≤ name_of edge
-    → AreLists name_of count (edges ++ edge ∷ []) (listed lists (name_of edge) (length edges))
+    → AreLists name_of count (edges ++ edge ∷ []) (added_to_list lists (name_of edge) (length edges))
 outside name_of count edges edge lists before above =
     rw (le-ltb (name_of edge) (length lists) above) (record {
       many = before.many;
@@ -68,7 +68,7 @@ outside name_of count edges edge lists before above =
     })
 
 pub AreLists-more : (name_of : Edge → ℕ) (count : ℕ) (edges : List Edge) (edge : Edge) (lists : List (List ℕ))
-    → AreLists name_of count edges lists → AreLists name_of count (edges ++ edge ∷ []) (listed lists (name_of edge) (length edges))
+    → AreLists name_of count edges lists → AreLists name_of count (edges ++ edge ∷ []) (added_to_list lists (name_of edge) (length edges))
 AreLists-more name_of count edges edge lists before =
     ⊎_elim (inside name_of count edges edge lists before) (outside name_of count edges edge lists before)
     (cases_lt (name_of edge) (length lists))
@@ -100,7 +100,7 @@ AreLists-found name_of count edges lists op list are found =
 -- the lists after one edge more of a list
 pub AreLists-step : (name_of : Edge → ℕ) (count : ℕ) (edges : List Edge) (number : ℕ) (edge : Edge) (lists longer : List (List ℕ))
     → number < length edges → edge ≡ get_or edges number edge → AreLists name_of count (take number edges) lists
-    → longer ≡ listed lists (name_of edge) number → AreLists name_of count (take (number + 1) edges) longer
+    → longer ≡ added_to_list lists (name_of edge) number → AreLists name_of count (take (number + 1) edges) longer
 AreLists-step name_of count edges number edge lists longer below is before longer_is =
     let many : length (take number edges) ≡ number = length-take-le number edges (omega arith) in
     let more = rw many at (AreLists-more name_of count (take number edges) edge lists before) in

@@ -17,8 +17,8 @@ use Rattle.mit_ops.specs.declared.kinds.OpSpec.TheVariants.{Copy, MakeRow, Scala
 use Rattle.mit_ops.specs.declared.leave.Leave.TheVariants.{Branch, End, Jump}
 use Rattle.mit_ops.specs.declared.routes.Route.TheVariants.{Forward, Gather}
 use Rattle.mit_path.specs.Choice.{last_below}
-use Rattle.mit_plan.specs.Held.{History, Job, Part, Run, all_there, entered, history_of, ok, part_of, rows, run}
-use Rattle.mit_plan.specs.Meant.{ending_of, first_or, meant, write_of}
+use Rattle.mit_plan.specs.Held.{History, Job, Part, Run, all_there, as_part, history_of, ok, rows, run, with_place}
+use Rattle.mit_plan.specs.Meant.{first_or, history_ending, meant, write_of}
 use Rattle.mit_plan.specs.Plans.{PlanOf, numbers_where}
 use Rattle.mit_plan.proofs.Computed.{block_of, edge, next_place, one_row, op, scalar, start, three_rows, two_rows, value_row}
 use Rattle.mit_plan.proofs.Stops.{run_stays}
@@ -71,37 +71,37 @@ module _ (one nought low first more next row name : Expr) (files : FileMap) (val
   job = record { plan = plan_of one nought low first more next row name; files = files; decisions = 5; partitions = 2 }
 
   abbrev h0 : History
-  h0 = entered start 0 (both_of 1 0)
+  h0 = with_place start 0 (both_of 1 0)
 
   abbrev h1 : History
-  h1 = entered h0 1 (header_of 1 0 (Truth true))
+  h1 = with_place h0 1 (header_of 1 0 (Truth true))
 
   abbrev h2 : History
-  h2 = entered h1 2 (scalar (Truth true) ∷ [])
+  h2 = with_place h1 2 (scalar (Truth true) ∷ [])
 
   abbrev h3 : History
-  h3 = entered h2 3 (scalar (int 10) ∷ [])
+  h3 = with_place h2 3 (scalar (int 10) ∷ [])
 
   abbrev h4 : History
-  h4 = entered h3 5 (both_of 10 2)
+  h4 = with_place h3 5 (both_of 10 2)
 
   abbrev h5 : History
-  h5 = entered h4 1 (header_of 2 10 (Truth true))
+  h5 = with_place h4 1 (header_of 2 10 (Truth true))
 
   abbrev h6 : History
-  h6 = entered h5 2 (scalar (Truth false) ∷ [])
+  h6 = with_place h5 2 (scalar (Truth false) ∷ [])
 
   abbrev h7 : History
-  h7 = entered h6 4 []
+  h7 = with_place h6 4 []
 
   abbrev h8 : History
-  h8 = entered h7 5 (both_of 10 3)
+  h8 = with_place h7 5 (both_of 10 3)
 
   abbrev h9 : History
-  h9 = entered h8 1 (header_of 3 10 (Truth false))
+  h9 = with_place h8 1 (header_of 3 10 (Truth false))
 
   abbrev h10 : History
-  h10 = entered h9 6 (both_of 10 10)
+  h10 = with_place h9 6 (both_of 10 10)
 
   -- ---- the first turn
 
@@ -168,7 +168,7 @@ module _ (one nought low first more next row name : Expr) (files : FileMap) (val
   place_10 =
       next_place job 10 h9 6 (both_of 10 10) place_9
       (two_rows job h9 6 (scalar (int 10)) (scalar (int 10)) (value_row (value_in [] (int 10 ∷ []) row) (int 10) values.row_is)
-      (ap (λ (v : ValueOrFault). part_of (settled (at_row [] (given v (written ((int 10 ∷ []) ∷ []))))) ∷ ok [] ∷ []) values.name_is))
+      (ap (λ (v : ValueOrFault). as_part (settled (at_row [] (given v (written ((int 10 ∷ []) ∷ []))))) ∷ ok [] ∷ []) values.name_is))
 
   all_of_it : history_of job ≡ h10
   all_of_it = ap (λ (state : Run). state.history) (run_stays job 11 31 (ap (λ (state : Run). state.next) place_10) ∙ place_10)
@@ -177,5 +177,5 @@ module _ (one nought low first more next row name : Expr) (files : FileMap) (val
   pub loop_is : meant (plan_of one nought low first more next row name) files 5 2 ≡ finished (record { name = 122 ∷ []; bag = (int 10 ∷ []) ∷ [] } ∷ []) 5
   unfolding all_there all_rows bag_of insert_row captured last_below numbers_where over is_legal
   loop_is =
-      ap (ending_of job) all_of_it
+      ap (history_ending job) all_of_it
       ∙ ap (λ (v : ValueOrFault). first_or [] (finished (cons_option (write_of (legal_in v) (ok ((int 10 ∷ []) ∷ []))) []) 5)) values.name_is

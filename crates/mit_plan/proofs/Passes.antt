@@ -7,7 +7,7 @@ use Rattle.std.proofs.lemmas.Bool.{and_from, and_parts, both_ways, cases_Bool, c
 use Rattle.std.proofs.lemmas.List.{get_or-map, get_or_default, length-map}
 use Rattle.std.proofs.lemmas.List.Elements.{All-contains, All-map}
 use Rattle.std.proofs.lemmas.List.Folds.{fold-map}
-use Rattle.mit_path.specs.Choice.{chosen}
+use Rattle.mit_path.specs.Choice.{chosen_operand}
 use Rattle.mit_plan.specs.Deciding.{ListsStand, PathsStand, Tells}
 use Rattle.mit_plan.specs.Passed.{BlockFeeds, BlockPasses, EdgePasses, PhiPasses, feeds, sources_marked}
 use Rattle.mit_plan.specs.Paths.{IsPath}
@@ -194,7 +194,7 @@ places_from : (plan : PlanOf) → ListsStand plan → EachBlock plan (BlockPasse
 places_from plan lists blocks phis path is place below op within at = by_phi (is_phi (op_at plan op)) refl
   where
     edge_chooses : (edge : ℕ) → is_phi (op_at plan op) ≡ false → (edge < length plan.edges) × ((edge_at plan edge).to ≡ op)
-        → IsSome (chosen path (source_block plan (edge_at plan edge) ∷ []) place false)
+        → IsSome (chosen_operand path (source_block plan (edge_at plan edge) ∷ []) place false)
     edge_chooses edge plain (less, to) =
         let source = source_block plan (edge_at plan edge) in
         let there : source < length plan.blocks = source_within plan edge lists less in
@@ -203,10 +203,10 @@ places_from plan lists blocks phis path is place below op within at = by_phi (is
         ((blocks source there).each edge less refl).chooses no_phi path is place below target
 
     by_phi : (phi : Bool) → is_phi (op_at plan op) ≡ phi
-        → MatchBool phi (IsSome (chosen path (source_blocks plan op) place true)) (All (λ block. IsSome (chosen path (block ∷ []) place false)) (source_blocks plan op))
+        → MatchBool phi (IsSome (chosen_operand path (source_blocks plan op) place true)) (All (λ block. IsSome (chosen_operand path (block ∷ []) place false)) (source_blocks plan op))
     by_phi true phi = (phis op within).chooses phi path is place below at
     by_phi false plain =
-        let P : ℕ → Type 0 = λ block. IsSome (chosen path (block ∷ []) place false) in
+        let P : ℕ → Type 0 = λ block. IsSome (chosen_operand path (block ∷ []) place false) in
         All-map P (source_block plan) (inputs_of plan op)
         (All-map (λ (edge : Edge). P (source_block plan edge)) (edge_at plan) (edges_to plan op)
         (λ k d less. edge_chooses (get_or (edges_to plan op) k d) plain (leads_to plan op k d less)))
@@ -216,10 +216,10 @@ pub blocks_pass : (plan : PlanOf) → ListsStand plan → PlacesToChoose plan �
 blocks_pass plan lists places block there = record { each = λ edge less from_block. record { chooses = λ plain path is place below at. chooses_at edge less plain path is place below at } }
   where
     chooses_at : (edge : ℕ) → edge < length plan.edges → is_phi (op_at plan (edge_at plan edge).to) ≡ false → (path : List ℕ) → IsPath plan path → (place : ℕ) → place < length path
-        → target_block plan (edge_at plan edge) ≡ get_or path place 0 → IsSome (chosen path (source_block plan (edge_at plan edge) ∷ []) place false)
+        → target_block plan (edge_at plan edge) ≡ get_or path place 0 → IsSome (chosen_operand path (source_block plan (edge_at plan edge) ∷ []) place false)
     chooses_at edge less plain path is place below at =
         let op = (edge_at plan edge).to in
-        let P : ℕ → Type 0 = λ block. IsSome (chosen path (block ∷ []) place false) in
+        let P : ℕ → Type 0 = λ block. IsSome (chosen_operand path (block ∷ []) place false) in
         let chooses : Chooses plan path place op = places path is place below op (lists.inputs.name edge less).to at in
         let each : All P (source_blocks plan op) = rw plain at chooses in
         All-contains (λ (one : ℕ). P (source_block plan (edge_at plan one))) (edges_to plan op) edge

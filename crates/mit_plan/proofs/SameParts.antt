@@ -6,7 +6,7 @@ use Rattle.std.specs.Option.{option_map}
 use Rattle.std.proofs.lemmas.Bool.{cases_lt}
 use Rattle.mit_rows.specs.Bags.{RowOf, bag_sum}
 use Rattle.mit_ops.specs.Routes.{share}
-use Rattle.mit_path.specs.Choice.{chosen as chosen_operand}
+use Rattle.mit_path.specs.Choice.{chosen_operand}
 use Rattle.mit_plan.specs.Chosen.{Choice, choice_of, chosen, chosen_among, input_edges}
 use Rattle.mit_plan.specs.Held.{History, Job, Part, all_there, applied, bag_in, held, list_of, lists_of, op_of, part, received, senders, sent, stands, void}
 use Rattle.mit_plan.specs.Plans.{PlanOf, block_at, edge_at, edges_to, is_phi, op_at, source_block}

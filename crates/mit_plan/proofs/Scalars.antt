@@ -11,9 +11,9 @@ use Rattle.mit_ops.specs.Parts.{routed_lists, sum_parts}
 use Rattle.mit_ops.specs.declared.kinds.OpSpec.{OpSpec}
 use Rattle.mit_ops.specs.declared.kinds.OpSpec.TheVariants as op
 use Rattle.mit_plan.specs.Explained.{Explained}
-use Rattle.mit_plan.specs.Held.{History, Job, held, op_of, part_of}
+use Rattle.mit_plan.specs.Held.{History, Job, as_part, held, op_of}
 use Rattle.mit_plan.specs.Plans.{op_at}
-use Rattle.mit_plan.specs.Sums.{Takes}
+use Rattle.mit_plan.specs.Sums.{TakesBags}
 use Rattle.mit_plan.proofs.Choices.{PathLaws}
 use Rattle.mit_plan.proofs.Sums.{OpLaws, answer_of, answers_sum, bag_empty, cuts_of, held_in_row, row_is}
 
@@ -75,14 +75,14 @@ zero_sum answer zero some alone = absurd (omega arith)
 zero_sum answer (suc parts) some alone = sym (alone_sum answer parts alone)
 
 pub scalar_is : PathLaws → OpLaws → (job : Job) (history : History) (place index : ℕ) (columns : ℕ → ℕ) (bags : List BagOf) (expr : Expr) → Explained job history → 0 < job.partitions
-    → Takes job history place index columns bags → (op_at job.plan (op_of job.plan history.path place index)).spec ≡ op.Scalar expr
-    → held history place index 0 ≡ part_of (whole (op.Scalar expr) bags job.files)
+    → TakesBags job history place index columns bags → (op_at job.plan (op_of job.plan history.path place index)).spec ≡ op.Scalar expr
+    → held history place index 0 ≡ as_part (whole (op.Scalar expr) bags job.files)
 scalar_is paths laws job history place index columns bags expr explained some takes is =
     let op_here = op_of job.plan history.path place index in
     let answer = answer_of job history op_here place columns in
     let cuts = cuts_of job history op_here place in
     let alone = subst (λ (spec : OpSpec). IsAlone (answers spec columns job.partitions cuts job.files)) (sym is)
     (scalar_alone laws expr columns job.partitions cuts job.files) in
-    held_in_row job history place index (λ partition. part_of (answer partition)) 0 (row_is paths laws job history place index columns bags explained takes) some
-    ∙ ap part_of (zero_sum answer job.partitions some alone ∙ answers_sum paths laws job history place index columns bags some takes)
-    ∙ ap (λ (spec : OpSpec). part_of (whole spec bags job.files)) is
+    held_in_row job history place index (λ partition. as_part (answer partition)) 0 (row_is paths laws job history place index columns bags explained takes) some
+    ∙ ap as_part (zero_sum answer job.partitions some alone ∙ answers_sum paths laws job history place index columns bags some takes)
+    ∙ ap (λ (spec : OpSpec). as_part (whole spec bags job.files)) is

@@ -7,36 +7,36 @@ use Rattle.mit_ops.specs.Endings.{truth_in}
 use Rattle.mit_ops.specs.declared.leave.Leave.{Leave}
 use Rattle.mit_ops.specs.declared.leave.Leave.TheVariants.{Jump, Branch, End}
 use Rattle.mit_plan.specs.Valid.{by_leave, is_branch, settles}
-use Rattle.mit_plan.specs.Held.{History, Job, Part, Run, decided, decisions_before, enters, failed, follows, goes_on, held, ok, run, void}
+use Rattle.mit_plan.specs.Held.{History, Job, Part, Run, decided_block, decisions_before, enters, failed, follows, grown_run, held, ok, run, void}
 use Rattle.mit_plan.specs.Plans.{PlanOf, block_at}
 use Rattle.mit_plan.specs.declared.plan.PlanBlock.{PlanBlock}
 
 -- so many places on from a run
 go : Job → ℕ → Run → Run
 go job zero state = state
-go job (suc k) state = go job k (goes_on job state.history state.next)
+go job (suc k) state = go job k (grown_run job state.history state.next)
 
-go_last : (job : Job) (k : ℕ) (state : Run) → go job (suc k) state ≡ goes_on job (go job k state).history (go job k state).next
+go_last : (job : Job) (k : ℕ) (state : Run) → go job (suc k) state ≡ grown_run job (go job k state).history (go job k state).next
 unfolding go
 go_last job zero state = refl
-go_last job (suc k) state = go_last job k (goes_on job state.history state.next)
+go_last job (suc k) state = go_last job k (grown_run job state.history state.next)
 
 run_is : (job : Job) (k : ℕ) → run job k ≡ go job k (run job 0)
 unfolding run go
 run_is job zero = refl
-run_is job (suc k) = ap (λ (state : Run). goes_on job state.history state.next) (run_is job k) ∙ sym (go_last job k (run job 0))
+run_is job (suc k) = ap (λ (state : Run). grown_run job state.history state.next) (run_is job k) ∙ sym (go_last job k (run job 0))
 
 stays_none : (job : Job) (k : ℕ) (state : Run) → state.next ≡ None → (go job k state).next ≡ None
 unfolding go
 stays_none job zero state none = none
-stays_none job (suc k) state none = stays_none job k (goes_on job state.history state.next) (ap (λ (next : Option ℕ). (goes_on job state.history next).next) none)
+stays_none job (suc k) state none = stays_none job k (grown_run job state.history state.next) (ap (λ (next : Option ℕ). (grown_run job state.history next).next) none)
 
 more_none : (job : Job) (few more : ℕ) (state : Run) → (go job few state).next ≡ None → (go job (few + more) state).next ≡ None
 unfolding go
 more_none job zero more state none = let e : more ≡ 0 + more = omega arith in subst (λ (k : ℕ). (go job k state).next ≡ None) e (stays_none job more state none)
 more_none job (suc few) more state none =
     let e : suc (few + more) ≡ suc few + more = omega arith in
-    subst (λ (k : ℕ). (go job k state).next ≡ None) e (more_none job few more (goes_on job state.history state.next) none)
+    subst (λ (k : ℕ). (go job k state).next ≡ None) e (more_none job few more (grown_run job state.history state.next) none)
 
 -- ---- decisions
 
@@ -92,7 +92,7 @@ leaves_it job most left within before history place block (Branch yes_to no_to) 
         by_number zero few = absurd (omega (arith, few, less))
         by_number (suc n) few = (n, refl)
 
-    by_part : used job.plan before < job.decisions → (part : Part) → (go job (within + left * most) (record { history = history; next = decided part yes_to no_to })).next ≡ None
+    by_part : used job.plan before < job.decisions → (part : Part) → (go job (within + left * most) (record { history = history; next = decided_block part yes_to no_to })).next ≡ None
     by_part less (ok bag) = let one = a_left less in by_value (truth_in bag) one.0 one.1
       where
         by_value : (value : Bool) (fewer : ℕ) → left ≡ suc fewer → (go job (within + left * most) (record { history = history; next = Some (cond value yes_to no_to) })).next ≡ None
@@ -102,7 +102,7 @@ leaves_it job most left within before history place block (Branch yes_to no_to) 
     by_part less void = stays_none job (within + left * most) (record { history = history; next = None }) refl
 
     by_test : (test : Bool) → nat_lt (decisions_before job.plan history.path place) job.decisions ≡ test → (part : Part)
-        → (go job (within + left * most) (record { history = history; next = cond test (decided part yes_to no_to) None })).next ≡ None
+        → (go job (within + left * most) (record { history = history; next = cond test (decided_block part yes_to no_to) None })).next ≡ None
     by_test true is part = let less = ltb-true (decisions_before job.plan history.path place) job.decisions is in by_part (omega (arith, less, here)) part
     by_test false is part = stays_none job (within + left * most) (record { history = history; next = None }) refl
 
@@ -113,7 +113,7 @@ stops_within job most left (suc within) all later state block settled next enoug
     let e : suc (within + left * most) ≡ suc within + left * most = omega arith in
     let path = state.history.path in
     subst (λ (k : ℕ). (go job k state).next ≡ None) e
-    (subst (λ (some : Option ℕ). (go job (within + left * most) (goes_on job state.history some)).next ≡ None) (sym next)
+    (subst (λ (some : Option ℕ). (go job (within + left * most) (grown_run job state.history some)).next ≡ None) (sym next)
     (leaves_it job most left within path (enters job state.history block) (length path) (block_at job.plan block) (block_at job.plan block).leave all later
     (stops_within job most left within all later) settled (used_before job.plan path block) (used_push job.plan path block) enough))
 
@@ -136,7 +136,7 @@ unfolding run
 run_stays job places zero none = let e : 0 + places ≡ places = omega arith in ap (run job) e
 run_stays job places (suc more) none =
     let e : suc more + places ≡ suc (more + places) = omega arith in
-    ap (run job) e ∙ ap (λ (state : Run). goes_on job state.history state.next) (run_stays job places more none) ∙ still (run job places) none
+    ap (run job) e ∙ ap (λ (state : Run). grown_run job state.history state.next) (run_stays job places more none) ∙ still (run job places) none
   where
-    still : (state : Run) → state.next ≡ None → goes_on job state.history state.next ≡ state
-    still state none = ap (λ (next : Option ℕ). goes_on job state.history next) none ∙ ap (λ (next : Option ℕ). record { history = state.history; next = next }) (sym none)
+    still : (state : Run) → state.next ≡ None → grown_run job state.history state.next ≡ state
+    still state none = ap (λ (next : Option ℕ). grown_run job state.history next) none ∙ ap (λ (next : Option ℕ). record { history = state.history; next = next }) (sym none)

@@ -15,10 +15,10 @@ use Rattle.mit_ops.specs.declared.kinds.OpSpec.{OpSpec}
 use Rattle.mit_ops.specs.declared.routes.Route.{Route}
 use Rattle.mit_plan.specs.Chosen.{Choice, chosen, input_edges}
 use Rattle.mit_plan.specs.Explained.{Explained}
-use Rattle.mit_plan.specs.Held.{History, Job, Part, all_there, applied, bag_in, decisions_before, failed, held, is_ok, list_of, lists_of, ok, op_of, part, part_of, received, row_at, sent, stands, void}
+use Rattle.mit_plan.specs.Held.{History, Job, Part, all_there, applied, as_part, bag_in, decisions_before, failed, held, is_ok, list_of, lists_of, ok, op_of, part, received, row_at, sent, stands, void}
 use Rattle.mit_plan.specs.Meant.{answer_in, fault_at, fault_in, made, pair}
 use Rattle.mit_plan.specs.Plans.{block_at, edge_at, is_phi, op_at}
-use Rattle.mit_plan.specs.Sums.{AreRouted, Takes, bag_at, bag_taken, bags_of}
+use Rattle.mit_plan.specs.Sums.{AreRouted, TakesBags, bag_at, bag_taken, bags_of}
 use Rattle.mit_plan.proofs.Choices.{PathLaws, chosen_edge}
 use Rattle.mit_plan.proofs.Collected.{Are, all_are, all_true, are, map_range_same, range_push}
 use Rattle.mit_plan.proofs.Shares.{from_senders, senders_within}
@@ -207,10 +207,10 @@ same_bags laws job history op place to columns =
     ∙ ap (map bag_of) (sym (lists_at-map routes job.partitions to 0 many cut))
 
 applied_is : OpLaws → (job : Job) (history : History) (op place to : ℕ) (columns : ℕ → ℕ) (bags : List BagOf) → to < job.partitions → Inputs job history op place columns bags
-    → applied job (op_at job.plan op).spec to (lists_of job history op place to) ≡ part_of (answer_of job history op place columns to)
+    → applied job (op_at job.plan op).spec to (lists_of job history op place to) ≡ as_part (answer_of job history op place columns to)
 applied_is laws job history op place to columns bags below inputs =
     ap (applied job (op_at job.plan op).spec to) (lists_are laws job history op place to columns bags below inputs)
-    ∙ ap part_of (laws.part_order (op_at job.plan op).spec to job.partitions _ _ job.files (same_bags laws job history op place to columns))
+    ∙ ap as_part (laws.part_order (op_at job.plan op).spec to job.partitions _ _ job.files (same_bags laws job history op place to columns))
 
 -- an operator that was ok before stands
 is_ok_by : (part : Part) (bag : BagOf) → bag_in part ≡ Some bag → is_ok part ≡ true
@@ -237,8 +237,8 @@ stands_is job history place index to below stood =
     earlier_by (get_or history.path earlier 0) (get_or history.path place 0) (is_ok (held history earlier index to)) (eqb (get_or history.path earlier 0) (get_or history.path place 0)) refl
     (λ same. ok_in job history earlier index to (parts_of job history earlier index) below refl (stood earlier before same)))
 
-part_is : PathLaws → OpLaws → (job : Job) (history : History) (place index to : ℕ) (columns : ℕ → ℕ) (bags : List BagOf) → to < job.partitions → Takes job history place index columns bags
-    → part job history place index to ≡ part_of (answer_of job history (op_of job.plan history.path place index) place columns to)
+part_is : PathLaws → OpLaws → (job : Job) (history : History) (place index to : ℕ) (columns : ℕ → ℕ) (bags : List BagOf) → to < job.partitions → TakesBags job history place index columns bags
+    → part job history place index to ≡ as_part (answer_of job history (op_of job.plan history.path place index) place columns to)
 part_is paths laws job history place index to columns bags below takes =
     let op = op_of job.plan history.path place index in
     ap (λ (stood : Bool). cond stood (applied job (op_at job.plan op).spec to (lists_of job history op place to)) void) (stands_is job history place index to below takes.stood)
@@ -256,7 +256,7 @@ unfolding over
 over_same f g [] same = refl
 over_same f g (x ∷ xs) same = let here = same x in let rest = over_same f g xs same in cc
 
-answer_back : (answer : BagOrFault) → answer_in (part_of answer) ≡ answer
+answer_back : (answer : BagOrFault) → answer_in (as_part answer) ≡ answer
 answer_back (Ok bag) = refl
 answer_back (Err fault) = refl
 
@@ -270,11 +270,11 @@ over_range laws answer (suc many) =
     ∙ laws.commutes (over answer (range_with_len 0 many)) (answer many)
     ∙ ap (λ (rest : BagOrFault). both (answer many) rest) (over_range laws answer many)
 
-pub row_is : PathLaws → OpLaws → (job : Job) (history : History) (place index : ℕ) (columns : ℕ → ℕ) (bags : List BagOf) → Explained job history → Takes job history place index columns bags
-    → row_at history place index ≡ map (λ partition. part_of (answer_of job history (op_of job.plan history.path place index) place columns partition)) (range_with_len 0 job.partitions)
+pub row_is : PathLaws → OpLaws → (job : Job) (history : History) (place index : ℕ) (columns : ℕ → ℕ) (bags : List BagOf) → Explained job history → TakesBags job history place index columns bags
+    → row_at history place index ≡ map (λ partition. as_part (answer_of job history (op_of job.plan history.path place index) place columns partition)) (range_with_len 0 job.partitions)
 row_is paths laws job history place index columns bags explained takes =
     explained place index takes.below takes.stands
-    ∙ map_range_same (part job history place index) (λ partition. part_of (answer_of job history (op_of job.plan history.path place index) place columns partition)) 0 job.partitions
+    ∙ map_range_same (part job history place index) (λ partition. as_part (answer_of job history (op_of job.plan history.path place index) place columns partition)) 0 job.partitions
     (λ partition above below. part_is paths laws job history place index partition columns bags (omega (arith, below)) takes)
 
 pub all_alike : OpLaws → (cuts : List (List BagOf)) → SameBags (map all_rows cuts) (map bag_sum cuts)
@@ -282,7 +282,7 @@ all_alike laws [] = refl
 all_alike laws (cut ∷ cuts) = let here = laws.sorted (all_rows cut) in let rest = all_alike laws cuts in cc
 
 -- the answers of all partitions add up to what the operator makes of the whole bags
-pub answers_sum : PathLaws → OpLaws → (job : Job) (history : History) (place index : ℕ) (columns : ℕ → ℕ) (bags : List BagOf) → 0 < job.partitions → Takes job history place index columns bags
+pub answers_sum : PathLaws → OpLaws → (job : Job) (history : History) (place index : ℕ) (columns : ℕ → ℕ) (bags : List BagOf) → 0 < job.partitions → TakesBags job history place index columns bags
     → let op = op_of job.plan history.path place index in sum_parts (answer_of job history op place columns) job.partitions ≡ whole (op_at job.plan op).spec bags job.files
 answers_sum paths laws job history place index columns bags some takes =
     let op = op_of job.plan history.path place index in
@@ -294,13 +294,13 @@ answers_sum paths laws job history place index columns bags some takes =
     ∙ laws.order spec (map all_rows cuts) (map bag_sum cuts) job.files (all_alike laws cuts)
     ∙ ap (λ (inputs : List BagOf). whole spec inputs job.files) (sym given)
 
-pub sums : PathLaws → OpLaws → (job : Job) (history : History) (place index : ℕ) (columns : ℕ → ℕ) (bags : List BagOf) → Explained job history → 0 < job.partitions → Takes job history place index columns bags
+pub sums : PathLaws → OpLaws → (job : Job) (history : History) (place index : ℕ) (columns : ℕ → ℕ) (bags : List BagOf) → Explained job history → 0 < job.partitions → TakesBags job history place index columns bags
     → made history (pair place index) ≡ whole (op_at job.plan (op_of job.plan history.path place index)).spec bags job.files
 sums paths laws job history place index columns bags explained some takes =
     let answer = answer_of job history (op_of job.plan history.path place index) place columns in
     ap (over answer_in) (row_is paths laws job history place index columns bags explained takes)
-    ∙ over_map answer_in (λ partition. part_of (answer partition)) (range_with_len 0 job.partitions)
-    ∙ over_same (λ partition. answer_in (part_of (answer partition))) answer (range_with_len 0 job.partitions) (λ partition. answer_back (answer partition))
+    ∙ over_map answer_in (λ partition. as_part (answer partition)) (range_with_len 0 job.partitions)
+    ∙ over_same (λ partition. answer_in (as_part (answer partition))) answer (range_with_len 0 job.partitions) (λ partition. answer_back (answer partition))
     ∙ over_range laws answer job.partitions
     ∙ answers_sum paths laws job history place index columns bags some takes
 
@@ -316,7 +316,7 @@ more_ok laws first later rest is =
 
 -- answers that add up to a bag are bags
 bags_by : OpLaws → (first later : BagOrFault) (more : Option (List BagOf)) (bag : BagOf) → ((rest : BagOf) → later ≡ Ok rest → option_map bag_sum more ≡ Some rest)
-    → both first later ≡ Ok bag → option_map bag_sum (option_and_then (λ one. option_map (λ others. one ∷ others) more) (bag_in (part_of first))) ≡ Some bag
+    → both first later ≡ Ok bag → option_map bag_sum (option_and_then (λ one. option_map (λ others. one ∷ others) more) (bag_in (as_part first))) ≡ Some bag
 unfolding all_rows
 bags_by laws (Err fault) (Ok rest) more bag each sum = absurd cc
 bags_by laws (Err fault) (Err other) more bag each sum = absurd cc
@@ -331,11 +331,11 @@ bags_by laws (Ok first) (Ok rest) more bag each sum = by_more more (each rest re
         cc
 
 bags_in : OpLaws → (answer : ℕ → BagOrFault) (from many : ℕ) (bag : BagOf) → bag_of [] ≡ [] → over answer (range_with_len from many) ≡ Ok bag
-    → option_map bag_sum (all_there (map (λ partition. bag_in (part_of (answer partition))) (range_with_len from many))) ≡ Some bag
+    → option_map bag_sum (all_there (map (λ partition. bag_in (as_part (answer partition))) (range_with_len from many))) ≡ Some bag
 unfolding over all_there all_rows
 bags_in laws answer from zero bag nothing sum = cc
 bags_in laws answer from (suc many) bag nothing sum =
-    bags_by laws (answer from) (over answer (range_with_len (from + 1) many)) (all_there (map (λ partition. bag_in (part_of (answer partition))) (range_with_len (from + 1) many))) bag
+    bags_by laws (answer from) (over answer (range_with_len (from + 1) many)) (all_there (map (λ partition. bag_in (as_part (answer partition))) (range_with_len (from + 1) many))) bag
     (λ rest is. bags_in laws answer (from + 1) many rest nothing is) sum
 
 -- and bags add up to their sum
@@ -368,18 +368,18 @@ held_in_row job history place index parts partition is below =
     ap (λ (cells : List Part). get_or cells partition void) is ∙ get_or-map-range_with_len parts 0 job.partitions partition partition void below (omega arith)
 
 -- where the whole is a bag, all parts are there
-pub bag_there : PathLaws → OpLaws → (job : Job) (history : History) (place index : ℕ) (columns : ℕ → ℕ) (bags : List BagOf) (bag : BagOf) → Explained job history → 0 < job.partitions → Takes job history place index columns bags
+pub bag_there : PathLaws → OpLaws → (job : Job) (history : History) (place index : ℕ) (columns : ℕ → ℕ) (bags : List BagOf) (bag : BagOf) → Explained job history → 0 < job.partitions → TakesBags job history place index columns bags
     → made history (pair place index) ≡ Ok bag → bag_at job history place index ≡ Some bag
 bag_there paths laws job history place index columns bags bag explained some takes is =
     let answer = answer_of job history (op_of job.plan history.path place index) place columns in
     let row = row_is paths laws job history place index columns bags explained takes in
     let sum : over answer (range_with_len 0 job.partitions) ≡ Ok bag =
     sym (ap (over answer_in) row
-    ∙ over_map answer_in (λ partition. part_of (answer partition)) (range_with_len 0 job.partitions)
-    ∙ over_same (λ partition. answer_in (part_of (answer partition))) answer (range_with_len 0 job.partitions) (λ partition. answer_back (answer partition))) ∙ is in
+    ∙ over_map answer_in (λ partition. as_part (answer partition)) (range_with_len 0 job.partitions)
+    ∙ over_same (λ partition. answer_in (as_part (answer partition))) answer (range_with_len 0 job.partitions) (λ partition. answer_back (answer partition))) ∙ is in
     ap (λ (parts : List (Option BagOf)). option_map bag_sum (all_there parts))
-    (map_range_same (λ partition. bag_in (held history place index partition)) (λ partition. bag_in (part_of (answer partition))) 0 job.partitions
-    (λ partition above below. ap bag_in (held_in_row job history place index (λ partition. part_of (answer partition)) partition row (omega (arith, below)))))
+    (map_range_same (λ partition. bag_in (held history place index partition)) (λ partition. bag_in (as_part (answer partition))) 0 job.partitions
+    (λ partition above below. ap bag_in (held_in_row job history place index (λ partition. as_part (answer partition)) partition row (omega (arith, below)))))
     ∙ bags_in laws answer 0 job.partitions bag bag_empty sum
 
 -- the bag that is there is what the operator made
@@ -393,7 +393,7 @@ there_made laws job history place index bag explained below stands is =
     ∙ sum_in laws (part job history place index) 0 job.partitions bag bag_empty (ap (λ (parts : List (Option BagOf)). option_map bag_sum (all_there parts)) same ∙ is)
 
 -- where a part is not ok, there is a fault
-pub faulty : PathLaws → OpLaws → (job : Job) (history : History) (place index : ℕ) (columns : ℕ → ℕ) (bags : List BagOf) → Explained job history → 0 < job.partitions → Takes job history place index columns bags
+pub faulty : PathLaws → OpLaws → (job : Job) (history : History) (place index : ℕ) (columns : ℕ → ℕ) (bags : List BagOf) → Explained job history → 0 < job.partitions → TakesBags job history place index columns bags
     → bag_at job history place index ≡ None → IsSome (fault_at job.plan history (pair place index))
 faulty paths laws job history place index columns bags explained some takes none = by_made (made history (pair place index)) refl
   where

@@ -14,7 +14,7 @@ use Rattle.mit_ops.specs.declared.types.VarType.{VarType}
 use Rattle.mit_plan.specs.Deciding.{Tells, TypesStand}
 use Rattle.mit_plan.specs.Inferred.{AreForced, PhisFit, RoutesGiven, TruthsGiven}
 use Rattle.mit_plan.specs.Plans.{PlanOf, block_at, edge_at, edges_to, is_phi, no_edge, op_at}
-use Rattle.mit_plan.specs.Types.{AreTypes, Fits, HasOperands, IsTyped, type_at}
+use Rattle.mit_plan.specs.Types.{AreTypes, HasOperands, IsTypedOperator, TypeFits, type_at}
 use Rattle.mit_plan.specs.Valid.{HasTypes, last_of}
 use Rattle.mit_plan.specs.declared.plan.Edge.{Edge}
 
@@ -71,12 +71,12 @@ type_read types op at read is same below = is ∙ ap (λ (n : ℕ). get_or types
 
 -- types that fit have operands of their phis
 phis_of : (plan : PlanOf) (types : List VarType) → AreTypes plan types → PhisFit plan types
-phis_of plan types fit op below phi = subst (λ (is : Bool). MatchBool is (HasOperands plan types op) (IsTyped plan types op)) phi (fit.each op below)
+phis_of plan types fit op below phi = subst (λ (is : Bool). MatchBool is (HasOperands plan types op) (IsTypedOperator plan types op)) phi (fit.each op below)
 
-fits_by : (plan : PlanOf) (types : List VarType) (op : ℕ) (phi : Bool) → is_phi (op_at plan op) ≡ phi → (IsTrue (is_phi (op_at plan op)) → HasOperands plan types op) → (is_phi (op_at plan op) ≡ false → IsTyped plan types op)
-    → Fits plan types op
-fits_by plan types op true is phis typed = subst (λ (b : Bool). MatchBool b (HasOperands plan types op) (IsTyped plan types op)) (sym is) (phis is)
-fits_by plan types op false is phis typed = subst (λ (b : Bool). MatchBool b (HasOperands plan types op) (IsTyped plan types op)) (sym is) (typed is)
+fits_by : (plan : PlanOf) (types : List VarType) (op : ℕ) (phi : Bool) → is_phi (op_at plan op) ≡ phi → (IsTrue (is_phi (op_at plan op)) → HasOperands plan types op) → (is_phi (op_at plan op) ≡ false → IsTypedOperator plan types op)
+    → TypeFits plan types op
+fits_by plan types op true is phis typed = subst (λ (b : Bool). MatchBool b (HasOperands plan types op) (IsTypedOperator plan types op)) (sym is) (phis is)
+fits_by plan types op false is phis typed = subst (λ (b : Bool). MatchBool b (HasOperands plan types op) (IsTypedOperator plan types op)) (sym is) (typed is)
 
 these_fit : (plan : PlanOf) (types : List VarType) → AreForced plan types → PhisFit plan types → AreTypes plan types
 these_fit plan types forced phis = record {

@@ -14,10 +14,10 @@ use Rattle.mit_ops.specs.Parts.{CutInto, SameBags, routed_lists}
 use Rattle.mit_ops.specs.declared.kinds.OpSpec.{OpSpec}
 use Rattle.mit_ops.specs.declared.kinds.OpSpec.TheVariants as op
 use Rattle.mit_plan.specs.Explained.{Explained}
-use Rattle.mit_plan.specs.Held.{History, Job, held, op_of, part_of}
+use Rattle.mit_plan.specs.Held.{History, Job, as_part, held, op_of}
 use Rattle.mit_plan.specs.Meant.{pair, write_at, write_of}
 use Rattle.mit_plan.specs.Plans.{op_at}
-use Rattle.mit_plan.specs.Sums.{Takes}
+use Rattle.mit_plan.specs.Sums.{TakesBags}
 use Rattle.mit_plan.proofs.Choices.{PathLaws}
 use Rattle.mit_plan.proofs.Sums.{OpLaws, all_alike, answer_of, bags_are, cuts_fit, cuts_of, held_in_row, inputs_there, lists_are, lists_in, row_is, same_bags}
 
@@ -85,10 +85,10 @@ abbrev pub Gathers : OpSpec → (ℕ → ℕ) → ℕ → List (List (List RowOf
 Gathers spec columns parts cuts files = let lists = routed_lists spec columns parts 0 cuts in
     (part_apply spec 0 parts lists files ≡ whole spec (map all_rows cuts) files) × (name_written spec lists ≡ name_written spec (map all_rows cuts))
 
-write_by : PathLaws → OpLaws → (job : Job) (history : History) (place index : ℕ) (columns : ℕ → ℕ) (bags : List BagOf) → Explained job history → 0 < job.partitions → Takes job history place index columns bags
+write_by : PathLaws → OpLaws → (job : Job) (history : History) (place index : ℕ) (columns : ℕ → ℕ) (bags : List BagOf) → Explained job history → 0 < job.partitions → TakesBags job history place index columns bags
     → let op = op_of job.plan history.path place index in let spec = (op_at job.plan op).spec in
     NamesAlike spec → Gathers spec columns job.partitions (cuts_of job history op place) job.files
-    → write_at job history (pair place index) ≡ write_of (name_written spec bags) (part_of (whole spec bags job.files))
+    → write_at job history (pair place index) ≡ write_of (name_written spec bags) (as_part (whole spec bags job.files))
 write_by paths laws job history place index columns bags explained some takes names gathers =
     let op = op_of job.plan history.path place index in
     let spec = (op_at job.plan op).spec in
@@ -98,16 +98,16 @@ write_by paths laws job history place index columns bags explained some takes na
     let like = all_alike laws cuts in
     let name = names (lists_in job history op place 0 columns) (routed_lists spec columns job.partitions 0 cuts) (same_bags laws job history op place 0 columns)
     ∙ gathers.1 ∙ names (map all_rows cuts) (map bag_sum cuts) like ∙ ap (name_written spec) (sym given) in
-    let part = held_in_row job history place index (λ partition. part_of (answer_of job history op place columns partition)) 0 (row_is paths laws job history place index columns bags explained takes) some
-    ∙ ap part_of (gathers.0 ∙ laws.order spec (map all_rows cuts) (map bag_sum cuts) job.files like ∙ ap (λ (inputs : List BagOf). whole spec inputs job.files) (sym given)) in
+    let part = held_in_row job history place index (λ partition. as_part (answer_of job history op place columns partition)) 0 (row_is paths laws job history place index columns bags explained takes) some
+    ∙ ap as_part (gathers.0 ∙ laws.order spec (map all_rows cuts) (map bag_sum cuts) job.files like ∙ ap (λ (inputs : List BagOf). whole spec inputs job.files) (sym given)) in
     ap (λ (lists : Option (List BagOf)). write_of (option_and_then (name_written spec) lists) (held history place index 0)) (lists_are laws job history op place 0 columns bags some inputs)
     ∙ ap (λ (one : Option (List ℕ)). write_of one (held history place index 0)) name
     ∙ ap (write_of (name_written spec bags)) part
 
 pub write_is : PathLaws → OpLaws → ((name : Expr) (columns : ℕ → ℕ) (parts : ℕ) (cuts : List (List (List RowOf))) (files : FileMap) → 0 < parts → CutInto parts cuts → Gathers (op.Write name) columns parts cuts files)
-    → (job : Job) (history : History) (place index : ℕ) (columns : ℕ → ℕ) (bags : List BagOf) (name : Expr) → Explained job history → 0 < job.partitions → Takes job history place index columns bags
+    → (job : Job) (history : History) (place index : ℕ) (columns : ℕ → ℕ) (bags : List BagOf) (name : Expr) → Explained job history → 0 < job.partitions → TakesBags job history place index columns bags
     → (op_at job.plan (op_of job.plan history.path place index)).spec ≡ op.Write name
-    → write_at job history (pair place index) ≡ write_of (name_written (op.Write name) bags) (part_of (whole (op.Write name) bags job.files))
+    → write_at job history (pair place index) ≡ write_of (name_written (op.Write name) bags) (as_part (whole (op.Write name) bags job.files))
 write_is paths laws gathers job history place index columns bags name explained some takes is =
     let op_here = op_of job.plan history.path place index in
     let inputs = inputs_there paths job history op_here place columns bags takes.routed takes.takes in
@@ -116,4 +116,4 @@ write_is paths laws gathers job history place index columns bags name explained 
     write_by paths laws job history place index columns bags explained some takes
     (subst NamesAlike (sym is) (names_alike name))
     (subst (λ (spec : OpSpec). Gathers spec columns job.partitions cuts job.files) (sym is) (gathers name columns job.partitions cuts job.files some fit))
-    ∙ ap (λ (spec : OpSpec). write_of (name_written spec bags) (part_of (whole spec bags job.files))) is
+    ∙ ap (λ (spec : OpSpec). write_of (name_written spec bags) (as_part (whole spec bags job.files))) is

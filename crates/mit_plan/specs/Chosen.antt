@@ -1,7 +1,7 @@
 -- Choice: which bag an operator takes at a place of the path.
 use Rattle.std.specs.Prelude.{ℕ, List, [], ◌∷◌, map, Bool, Option, if◌then◌else◌, length, option_map, slice_index, slice_index_or}
 use Rattle.std.specs.List.{range_with_len}
-use Rattle.mit_path.specs.Choice.{chosen as chosen_operand}
+use Rattle.mit_path.specs.Choice.{chosen_operand}
 use Rattle.mit_plan.specs.Plans.{PlanOf, edge_at, edges_to, is_phi, op_at, source_block}
 
 -- an edge, and the place of the path whose bag is taken over it

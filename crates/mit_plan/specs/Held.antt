@@ -89,14 +89,14 @@ lists_of job history op place partition =
 
 -- ---- the part that it makes
 
-abbrev pub part_of : BagOrFault → Part
-part_of (Ok bag) = ok bag
-part_of (Err fault) = failed fault
+abbrev pub as_part : BagOrFault → Part
+as_part (Ok bag) = ok bag
+as_part (Err fault) = failed fault
 
 -- what is made of these lists, where none is missing
 abbrev pub applied : Job → OpSpec → ℕ → Option (List BagOf) → Part
 applied job spec partition None = void
-applied job spec partition (Some lists) = part_of (part_apply spec partition job.partitions lists job.files)
+applied job spec partition (Some lists) = as_part (part_apply spec partition job.partitions lists job.files)
 
 -- the number of the operator with this index in the block of a place
 abbrev pub op_of : PlanOf → List ℕ → ℕ → ℕ → ℕ
@@ -121,19 +121,19 @@ part job history place index partition =
 -- ---- the history grows by a place
 
 -- with these parts at a further place
-abbrev pub entered : History → ℕ → List (List Part) → History
-entered history block rows = record { path = history.path ++ block ∷ []; parts = history.parts ++ rows ∷ [] }
+abbrev pub with_place : History → ℕ → List (List Part) → History
+with_place history block rows = record { path = history.path ++ block ∷ []; parts = history.parts ++ rows ∷ [] }
 
 -- the parts of the first so many operators of a block that is entered; each operator takes from those before it
 unfoldable pub rows : Job → History → ℕ → ℕ → List (List Part)
 rows job history block zero = []
 rows job history block (suc index) =
     let before = rows job history block index in
-    before ++ map (part job (entered history block before) (length history.path) index) (range_with_len 0 job.partitions) ∷ []
+    before ++ map (part job (with_place history block before) (length history.path) index) (range_with_len 0 job.partitions) ∷ []
 
 -- the history after this block is entered and its operators have run
 abbrev pub enters : Job → History → ℕ → History
-enters job history block = entered history block (rows job history block (block_at job.plan block).count)
+enters job history block = with_place history block (rows job history block (block_at job.plan block).count)
 
 -- ---- how the path goes on
 
@@ -142,17 +142,17 @@ abbrev pub decisions_before : PlanOf → List ℕ → ℕ → ℕ
 decisions_before plan path place = count_by (λ block. is_branch (block_at plan block).leave) (take place path)
 
 -- the block to which the part of a condition leads
-abbrev pub decided : Part → ℕ → ℕ → Option ℕ
-decided (ok bag) on_true on_false = Some (if truth_in bag then on_true else on_false)
-decided (failed fault) on_true on_false = None
-decided void on_true on_false = None
+abbrev pub decided_block : Part → ℕ → ℕ → Option ℕ
+decided_block (ok bag) on_true on_false = Some (if truth_in bag then on_true else on_false)
+decided_block (failed fault) on_true on_false = None
+decided_block void on_true on_false = None
 
 -- the block that is entered after a place, if any; at a branch, where a decision is left, the block's last operator decides in partition 0
 abbrev pub follows : Job → History → ℕ → PlanBlock → Leave → Option ℕ
 follows job history place block (Jump next) = Some next
 follows job history place block (Branch on_true on_false) =
     if nat_lt (decisions_before job.plan history.path place) job.decisions
-    then decided (held history place (block.count - 1) 0) on_true on_false
+    then decided_block (held history place (block.count - 1) 0) on_true on_false
     else None
 follows job history place block End = None
 
@@ -161,16 +161,16 @@ pub record Run : Type 0 where
   pub history : History
   pub next : Option ℕ
 
-abbrev pub goes_on : Job → History → Option ℕ → Run
-goes_on job history None = record { history = history; next = None }
-goes_on job history (Some block) =
+abbrev pub grown_run : Job → History → Option ℕ → Run
+grown_run job history None = record { history = history; next = None }
+grown_run job history (Some block) =
     let after = enters job history block in
     record { history = after; next = follows job after (length history.path) (block_at job.plan block) (block_at job.plan block).leave }
 
 -- the run after so many places; it begins with block 0, and stays where the path stops
 unfoldable pub run : Job → ℕ → Run
 run job zero = record { history = record { path = []; parts = [] }; next = Some 0 }
-run job (suc places) = let before = run job places in goes_on job before.history before.next
+run job (suc places) = let before = run job places in grown_run job before.history before.next
 
 -- the history of the whole run: the path of a valid plan stops within so many places
 abbrev pub history_of : Job → History

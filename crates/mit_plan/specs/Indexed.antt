@@ -6,8 +6,8 @@ use Rattle.mit_plan.specs.declared.plan.PlanBlock.{PlanBlock}
 use Rattle.mit_plan.specs.declared.plan.PlanOp.{PlanOp}
 
 -- a number more in the list of this name, where there is one
-abbrev pub listed : List (List ℕ) → ℕ → ℕ → List (List ℕ)
-listed lists name number = if nat_lt name (length lists) then slice_set lists name (slice_index_or lists name [] ++ number ∷ []) else lists
+abbrev pub added_to_list : List (List ℕ) → ℕ → ℕ → List (List ℕ)
+added_to_list lists name number = if nat_lt name (length lists) then slice_set lists name (slice_index_or lists name [] ++ number ∷ []) else lists
 
 -- for each name below a count, the list of the numbers of these edges by name
 pub record AreLists (name_of : Edge → ℕ) (count : ℕ) (edges : List Edge) (lists : List (List ℕ)) : Type 0 where

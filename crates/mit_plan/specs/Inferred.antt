@@ -7,7 +7,7 @@ use Rattle.mit_ops.specs.Results.{AreBags, IsBagType, scalar, typed_as}
 use Rattle.mit_ops.specs.declared.kinds.OpSpec.{OpSpec}
 use Rattle.mit_ops.specs.declared.types.VarType.{VarType}
 use Rattle.mit_plan.specs.Plans.{EachBlock, EachEdge, EachOp, PlanOf, block_at, edge_at, inputs_of, is_phi, op_at}
-use Rattle.mit_plan.specs.Types.{AreTypes, HasOperands, IsTyped, type_at}
+use Rattle.mit_plan.specs.Types.{AreTypes, HasOperands, IsTypedOperator, type_at}
 use Rattle.mit_plan.specs.Valid.{HasTypes, is_branch, last_of, route_wanted}
 use Rattle.mit_plan.specs.declared.valid.inference.Inference.{Inference}
 use Rattle.mit_plan.specs.declared.valid.inference.Inference.TheVariants.{Waits, Refused, Is}
@@ -29,7 +29,7 @@ pub record Agree (inferred : List (Option VarType)) (types : List VarType) : Typ
 -- an operator has this type wherever types fit, and it fits unless the operator is a phi
 pub record IsForced (plan : PlanOf) (inferred : List (Option VarType)) (op : ℕ) (type : VarType) : Type 0 where
   pub only : (types : List VarType) → AreTypes plan types → type_at types op ≡ type
-  pub fits : is_phi (op_at plan op) ≡ false → (types : List VarType) → Agree inferred types → type_at types op ≡ type → IsTyped plan types op
+  pub fits : is_phi (op_at plan op) ≡ false → (types : List VarType) → Agree inferred types → type_at types op ≡ type → IsTypedOperator plan types op
   pub wide : IsBagType type
 
 -- each type that is inferred is forced
@@ -72,7 +72,7 @@ IsHeadway plan before after tried headway.Goes = AreInferred plan after × (not_
 pub record AreForced (plan : PlanOf) (types : List VarType) : Type 0 where
   pub many : length types ≡ length plan.ops
   pub only : (others : List VarType) → AreTypes plan others → others ≡ types
-  pub typed : EachOp plan (λ op. is_phi (op_at plan op) ≡ false → IsTyped plan types op)
+  pub typed : EachOp plan (λ op. is_phi (op_at plan op) ≡ false → IsTypedOperator plan types op)
   pub wide : AreBags types
 
 -- what is left to ask of such types: operands of phis, truth values for branches, and routes

@@ -19,11 +19,11 @@ abbrev pub is_no_jump : Leave → Bool
 is_no_jump = by_leave (λ next. false)
 
 -- so many jumps lead from a block to another one, or fewer to one that isn't left by a jump
-abbrev pub LeadsTo : PlanOf → ℕ → ℕ → ℕ → Type 0
-LeadsTo plan steps from to = (more : ℕ) → settles plan (steps + suc more) from ≡ settles plan (suc more) to
+abbrev pub JumpsTo : PlanOf → ℕ → ℕ → ℕ → Type 0
+JumpsTo plan steps from to = (more : ℕ) → settles plan (steps + suc more) from ≡ settles plan (suc more) to
 
 -- a table of the blocks to which so many jumps lead, one for each block
 pub record AreLed (plan : PlanOf) (steps : ℕ) (table : List ℕ) : Type 0 where
   pub many : length table ≡ length plan.blocks
   pub within : All (λ block. block < length plan.blocks) table
-  pub leads : EachBlock plan (λ block. LeadsTo plan steps block (slice_index table block))
+  pub leads : EachBlock plan (λ block. JumpsTo plan steps block (slice_index table block))

@@ -86,12 +86,12 @@ abbrev pub first_or : List ScriptFault → Ending → Ending
 first_or [] ending = ending
 first_or (fault ∷ later) ending = stopped fault
 
-abbrev pub ending_of : Job → History → Ending
-ending_of job history =
+abbrev pub history_ending : Job → History → Ending
+history_ending job history =
     let last = last_block job.plan history.path in
     first_or (faults_of job history) (at_end job history last last.leave)
 
 -- what a plan does over these files, with at most so many decisions, in so many partitions
 abbrev pub meant : PlanOf → FileMap → ℕ → ℕ → Ending
 meant plan files decisions partitions =
-    let job : Job = record { plan = plan; files = files; decisions = decisions; partitions = partitions } in ending_of job (history_of job)
+    let job : Job = record { plan = plan; files = files; decisions = decisions; partitions = partitions } in history_ending job (history_of job)

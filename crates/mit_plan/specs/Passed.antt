@@ -1,6 +1,6 @@
 -- Devices of the proofs: nobody has to believe them. Places to choose, edge by edge and phi by phi, and the marks that decide them.
 use Rattle.std.specs.Prelude.{◌≡◌, ◌<◌, ◌==◌, ◌&&◌, ℕ, List, [], ◌∷◌, Bool, true, false, not, IsSome, IsTrue, fold, length, slice_index, slice_set}
-use Rattle.mit_path.specs.Choice.{chosen}
+use Rattle.mit_path.specs.Choice.{chosen_operand}
 use Rattle.mit_plan.specs.Paths.{IsPath}
 use Rattle.mit_plan.specs.Plans.{EachEdge, PlanOf, edge_at, is_phi, op_at, source_block, target_block}
 use Rattle.mit_plan.specs.Searched.{is_marked}
@@ -9,7 +9,7 @@ use Rattle.mit_plan.specs.Valid.{source_blocks}
 -- wherever its target stands, if that is no phi, an edge has a place of its source
 pub record EdgePasses (plan : PlanOf) (edge : ℕ) : Type 0 where
   pub chooses : is_phi (op_at plan (edge_at plan edge).to) ≡ false → (path : List ℕ) → IsPath plan path → (place : ℕ) → place < length path
-      → target_block plan (edge_at plan edge) ≡ slice_index path place → IsSome (chosen path (source_block plan (edge_at plan edge) ∷ []) place false)
+      → target_block plan (edge_at plan edge) ≡ slice_index path place → IsSome (chosen_operand path (source_block plan (edge_at plan edge) ∷ []) place false)
 
 -- so does each edge that leaves an operator of a block
 pub record BlockPasses (plan : PlanOf) (block : ℕ) : Type 0 where
@@ -18,7 +18,7 @@ pub record BlockPasses (plan : PlanOf) (block : ℕ) : Type 0 where
 -- wherever it stands, if it is a phi, an operator has a place of an operand
 pub record PhiPasses (plan : PlanOf) (op : ℕ) : Type 0 where
   pub chooses : IsTrue (is_phi (op_at plan op)) → (path : List ℕ) → IsPath plan path → (place : ℕ) → place < length path
-      → (op_at plan op).block ≡ slice_index path place → IsSome (chosen path (source_blocks plan op) place true)
+      → (op_at plan op).block ≡ slice_index path place → IsSome (chosen_operand path (source_blocks plan op) place true)
 
 -- whether an edge leads to an operator, no phi, of a marked block other than this one
 abbrev pub feeds : PlanOf → List Bool → ℕ → ℕ → Bool

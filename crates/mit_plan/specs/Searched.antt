@@ -47,19 +47,19 @@ abbrev pub after_jump : ℕ → Leave → ℕ
 after_jump block (Jump next) = next
 after_jump block _ = block
 
-abbrev pub step_of : PlanOf → ℕ → ℕ
-step_of plan block = if (block_at plan block).count == 0 then after_jump block (block_at plan block).leave else block
+abbrev pub jump_step : PlanOf → ℕ → ℕ
+jump_step plan block = if (block_at plan block).count == 0 then after_jump block (block_at plan block).leave else block
 
 -- the block after so many steps of this kind
-unfoldable pub walk : PlanOf → ℕ → ℕ → ℕ
-walk plan zero block = block
-walk plan (suc steps) block = walk plan steps (step_of plan block)
+unfoldable pub after_steps : PlanOf → ℕ → ℕ → ℕ
+after_steps plan zero block = block
+after_steps plan (suc steps) block = after_steps plan steps (jump_step plan block)
 
 -- so many steps at least lead from a block to another one
 pub record WalksTo (plan : PlanOf) (least block landing : ℕ) : Type 0 where
   pub steps : ℕ
   pub enough : least ≤ steps
-  pub is : landing ≡ walk plan steps block
+  pub is : landing ≡ after_steps plan steps block
 
 -- so many steps at least lead from each block to its landing
 pub record Walks (plan : PlanOf) (least : ℕ) (landings : List ℕ) : Type 0 where

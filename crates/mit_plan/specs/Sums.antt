@@ -29,7 +29,7 @@ AreRouted plan op columns = (input : ℕ)
     → All (λ edge. (edge_at plan edge).route ≡ route_to (op_at plan op).spec input (columns input)) (slice_index_or (input_edges plan op) input [])
 
 -- an operator of the block of a place takes these bags there, and was ok in each partition at the earlier places of the block
-pub record Takes (job : Job) (history : History) (place index : ℕ) (columns : ℕ → ℕ) (bags : List BagOf) : Type 0 where
+pub record TakesBags (job : Job) (history : History) (place index : ℕ) (columns : ℕ → ℕ) (bags : List BagOf) : Type 0 where
   pub below : place < length history.path
   pub stands : index < (block_at job.plan (slice_index history.path place)).count
   pub routed : AreRouted job.plan (op_of job.plan history.path place index) columns

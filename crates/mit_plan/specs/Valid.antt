@@ -2,7 +2,7 @@
 use Rattle.std.specs.Prelude.{◌≡◌, ◌≢◌, ◌<◌, ◌≤◌, ◌+◌, ◌-◌, ◌⊎◌, ℕ, zero, suc, List, [], ◌∷◌, length, map, All, Bool, true, false, IsTrue, IsSome, count_by, if◌then◌else◌, slice_index, slice_index_or, MatchBool, ⊤}
 use Rattle.std.specs.List.{range_with_len}
 use Rattle.mit_rows.specs.declared.value.ColType.TheVariants.{Bool as Truth}
-use Rattle.mit_path.specs.Choice.{chosen}
+use Rattle.mit_path.specs.Choice.{chosen_operand}
 use Rattle.mit_ops.specs.Kinds.{bag_inputs_of, captures_of, kind_of}
 use Rattle.mit_ops.specs.Results.{scalar}
 use Rattle.mit_ops.specs.Routes.{route_to}
@@ -175,8 +175,8 @@ EdgesGoUp plan = EachEdge plan (λ edge. GoesUp (op_at plan (edge_at plan edge).
 abbrev pub Chooses : PlanOf → List ℕ → ℕ → ℕ → Type 0
 Chooses plan path place op =
     MatchBool (is_phi (op_at plan op))
-    (IsSome (chosen path (source_blocks plan op) place true))
-    (All (λ block. IsSome (chosen path (block ∷ []) place false)) (source_blocks plan op))
+    (IsSome (chosen_operand path (source_blocks plan op) place true))
+    (All (λ block. IsSome (chosen_operand path (block ∷ []) place false)) (source_blocks plan op))
 
 -- on every path from block 0 each operator has a place to choose at each place of its block
 abbrev pub PlacesToChoose : PlanOf → Type 0

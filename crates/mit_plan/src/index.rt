@@ -1,6 +1,6 @@
 //! Which edges lead to each operator, and which leave it.
 ghost use Rattle.std.specs.Prelude.{◌≡◌, ◌<◌, ◌^◌, IfOk, OnOk, length, replicate, []};
-ghost use Rattle.mit_plan.specs.Indexed.{AreLists, listed};
+ghost use Rattle.mit_plan.specs.Indexed.{AreLists, added_to_list};
 
 use crate::plan::Edge;
 use sqlite_items::Items;
@@ -19,7 +19,7 @@ fn empty_lists(alloc: Global, count: usize) -> Result<Vec<Items<u32>>, AllocErro
 
 /// Adds a number to the list of this name, where there is one.
 fn enlist(lists: &mut Vec<Items<u32>>, name: u32, number: u32) -> Result<(), AllocError>
-    ensures { OnOk result (lists.new.items ≡ listed lists.old.items name number) }
+    ensures { OnOk result (lists.new.items ≡ added_to_list lists.old.items name number) }
 {
     let name = name as usize;
     if name < lists.len() {

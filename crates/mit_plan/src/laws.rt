@@ -7,10 +7,10 @@ ghost use Rattle.mit_ops.specs.declared.kinds.OpSpec.TheVariants as op;
 ghost use Rattle.mit_plan.specs.Bound.{most_places};
 ghost use Rattle.mit_plan.specs.Chosen.{chosen};
 ghost use Rattle.mit_plan.specs.Explained.{Explained, Extends};
-ghost use Rattle.mit_plan.specs.Held.{History, Job, enters, held, part, part_of, run};
+ghost use Rattle.mit_plan.specs.Held.{History, Job, as_part, enters, held, part, run};
 ghost use Rattle.mit_plan.specs.Meant.{fault_at, faults_of, made, pair, pairs_at, write_at, write_of, writes_of};
 ghost use Rattle.mit_plan.specs.Plans.{PlanOf, block_at};
-ghost use Rattle.mit_plan.specs.Sums.{Takes, bag_at, spec_at};
+ghost use Rattle.mit_plan.specs.Sums.{TakesBags, bag_at, spec_at};
 ghost use Rattle.mit_plan.specs.Valid.{EdgesGoUp, JumpsEnd, RangesFollow};
 
 use mit_ops::laws::{answers_add_up, partition_law, routes_law};
@@ -81,15 +81,15 @@ pub fn more_places_law()
 pub fn sums_law()
     ensures whole { (job : Job) (history : History) (place index : ℕ) (columns : ℕ → ℕ)
         (bags : List BagOf) → Explained job history → 0 < job.partitions
-        → Takes job history place index columns bags
+        → TakesBags job history place index columns bags
         → made history (pair place index) ≡ whole (spec_at job history place index) bags job.files }
     ensures ok { (job : Job) (history : History) (place index : ℕ) (columns : ℕ → ℕ)
         (bags : List BagOf) (bag : BagOf) → Explained job history → 0 < job.partitions
-        → Takes job history place index columns bags → made history (pair place index) ≡ Ok bag
+        → TakesBags job history place index columns bags → made history (pair place index) ≡ Ok bag
         → bag_at job history place index ≡ Some bag }
     ensures faulty { (job : Job) (history : History) (place index : ℕ) (columns : ℕ → ℕ)
         (bags : List BagOf) → Explained job history → 0 < job.partitions
-        → Takes job history place index columns bags → bag_at job history place index ≡ None
+        → TakesBags job history place index columns bags → bag_at job history place index ≡ None
         → IsSome (fault_at job.plan history (pair place index)) }
     ensures made { (job : Job) (history : History) (place index : ℕ) (bag : BagOf)
         → Explained job history → place < length history.path
@@ -97,15 +97,15 @@ pub fn sums_law()
         → bag_at job history place index ≡ Some bag → made history (pair place index) ≡ Ok bag }
     ensures write { (job : Job) (history : History) (place index : ℕ) (columns : ℕ → ℕ)
         (bags : List BagOf) (name : Expr) → Explained job history → 0 < job.partitions
-        → Takes job history place index columns bags
+        → TakesBags job history place index columns bags
         → spec_at job history place index ≡ op.Write name
         → write_at job history (pair place index) ≡ write_of (name_written (op.Write name) bags)
-        (part_of (whole (op.Write name) bags job.files)) }
+        (as_part (whole (op.Write name) bags job.files)) }
     ensures decides { (job : Job) (history : History) (place index : ℕ) (columns : ℕ → ℕ)
         (bags : List BagOf) (expr : Expr) → Explained job history → 0 < job.partitions
-        → Takes job history place index columns bags
+        → TakesBags job history place index columns bags
         → spec_at job history place index ≡ op.Scalar expr
-        → held history place index 0 ≡ part_of (whole (op.Scalar expr) bags job.files) }
+        → held history place index 0 ≡ as_part (whole (op.Scalar expr) bags job.files) }
 {
     longer_view_law();
     last_place_law();

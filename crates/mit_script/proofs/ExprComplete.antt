@@ -7,7 +7,7 @@ use Rattle.mit_expr.specs.declared.expr.Expr.{Expr}
 use Rattle.mit_expr.specs.declared.expr.Expr.TheVariants as expr
 use Rattle.mit_lex.specs.declared.token.TokenKind.TheVariants.{Number, Symbol}
 use Rattle.mit_lex.specs.declared.symbol.TheConstants as symbol
-use Rattle.mit_script.specs.Grammar.{Kinds, SpellsExpr, stronger, binary, negated, positive, negative, text_literal, truth_literal, column_place, captured_name, called, enclosed, operator_token}
+use Rattle.mit_script.specs.Grammar.{Kinds, SpellsExpr, stronger, binary, negated, positive, negative, text_literal, truth_literal, column_place, captured_name, function_call, enclosed, operator_token}
 use Rattle.mit_script.specs.Reading.{Reading, ◌>>=◌, alone, after_next, called_at, chain, chain_by, chain_from, compared, comparison, enclosed_at, expect_symbol, expression, negation, negative_at, operator_at, primary, ranked, ranked_operator, sees_word}
 use Rattle.mit_script.proofs.ExprFacts.{EndsRank, ends_none, ends_operator, ends_weaker, none_ranked, rank_below, rank_not_two, ranked_operator-token}
 use Rattle.mit_script.proofs.ExprForms.{Chain, Chained, Compared, IsChained, chained, is_chained, is_compared, more, no_more, no_not, one, spelled_long, spelled_rank, two}
@@ -127,11 +127,11 @@ primary_complete number inner most complete (truth_literal true) is after few = 
 primary_complete number inner most complete (truth_literal false) is after few = refl
 primary_complete number inner most complete (column_place place) is after few = refl
 primary_complete number inner most complete (captured_name name) is after few = refl
-primary_complete number inner most complete (called {e = e} {tokens = tokens} call.ToText spelled) is after few =
+primary_complete number inner most complete (function_call {e = e} {tokens = tokens} call.ToText spelled) is after few =
     let whole = length-append tokens (Symbol symbol.RIGHT_PAREN ∷ []) in called_complete number inner most complete call.ToText e tokens after spelled (omega arith)
-primary_complete number inner most complete (called {e = e} {tokens = tokens} call.ToInt spelled) is after few =
+primary_complete number inner most complete (function_call {e = e} {tokens = tokens} call.ToInt spelled) is after few =
     let whole = length-append tokens (Symbol symbol.RIGHT_PAREN ∷ []) in called_complete number inner most complete call.ToInt e tokens after spelled (omega arith)
-primary_complete number inner most complete (called {e = e} {tokens = tokens} call.Len spelled) is after few =
+primary_complete number inner most complete (function_call {e = e} {tokens = tokens} call.Len spelled) is after few =
     let whole = length-append tokens (Symbol symbol.RIGHT_PAREN ∷ []) in called_complete number inner most complete call.Len e tokens after spelled (omega arith)
 primary_complete number inner most complete (enclosed {e = e} {tokens = tokens} spelled) is after few =
     let whole = length-append tokens (Symbol symbol.RIGHT_PAREN ∷ []) in enclosed_complete number inner most complete e tokens after spelled (omega arith)

@@ -5,7 +5,7 @@ use Rattle.mit_expr.specs.declared.expr.Call.TheVariants as call
 use Rattle.mit_expr.specs.declared.expr.Expr.{Expr}
 use Rattle.mit_expr.specs.declared.expr.Expr.TheVariants as expr
 use Rattle.mit_lex.specs.declared.keyword.TheConstants as word
-use Rattle.mit_script.specs.Grammar.{Kinds, SpellsExpr, stronger, binary, negated, truth_literal, called, operator_token}
+use Rattle.mit_script.specs.Grammar.{Kinds, SpellsExpr, stronger, binary, negated, truth_literal, function_call, operator_token}
 use Rattle.mit_script.specs.Reading.{sees_word}
 use Rattle.mit_script.specs.Grammar.{left_rank, rank_of, right_rank}
 use Rattle.mit_script.proofs.ExprFacts.{rank_below}
@@ -126,7 +126,7 @@ no_not number (binary {tokens = tokens} {others = others} op left right) high af
 no_not number (negated spelled) high after = absurd (omega arith)
 no_not number (truth_literal true) high after = refl
 no_not number (truth_literal false) high after = refl
-no_not number (called call.ToText spelled) high after = refl
-no_not number (called call.ToInt spelled) high after = refl
-no_not number (called call.Len spelled) high after = refl
+no_not number (function_call call.ToText spelled) high after = refl
+no_not number (function_call call.ToInt spelled) high after = refl
+no_not number (function_call call.Len spelled) high after = refl
 no_not number _ high after = refl

@@ -8,7 +8,7 @@ use Rattle.mit_expr.specs.declared.expr.Expr.TheVariants as expr
 use Rattle.mit_lex.specs.declared.token.TokenKind.TheVariants.{Name, Number, Column, Text, Symbol, Keyword}
 use Rattle.mit_lex.specs.declared.symbol.TheConstants as symbol
 use Rattle.mit_lex.specs.declared.keyword.TheConstants as word
-use Rattle.mit_script.specs.Grammar.{Kinds, SpellsExpr, stronger, negated, positive, negative, text_literal, truth_literal, column_place, captured_name, called, enclosed, operator_token, call_token}
+use Rattle.mit_script.specs.Grammar.{Kinds, SpellsExpr, stronger, negated, positive, negative, text_literal, truth_literal, column_place, captured_name, function_call, enclosed, operator_token, call_token}
 use Rattle.mit_script.specs.Reading.{Reading, ◌>>=◌, alone, any_expression, after_next, call_by, call_of_word, called_at, chain, chain_by, chain_from, compared, comparison, enclosed_at, expect_symbol, expression, negation, negative_at, primary, ranked, ranked_operator, sees_word}
 use Rattle.mit_script.specs.Grammar.{rank_of}
 use Rattle.mit_script.proofs.Readers.{Bounded, IsSymbol, Reads, Anything, left_below, reads_as, reads_behind, reads_if, reads_made, reads_none, reads_symbol, reads_then, reads_token, reads_where, refuses, refuses_end, refuses_token, word_local, word_seen}
@@ -265,10 +265,10 @@ module _ {X : Type 0} (number : List ℕ → ℕ) (most : ℕ) (numbers : X → 
       (λ e used. SpellsExpr number 7 e (call_token function ∷ used))
       (λ opened e used others is spelled. subst (λ opens. SpellsExpr number 7 e (call_token function ∷ (opens ++ others))) (sym is) spelled)
       (λ opened. enclosed_at inner opened.1 >>= λ e. Ok (expr.Call function e.0, e.1))
-      (λ opened. (expr.Call function nought, Number 0 ∷ Symbol symbol.RIGHT_PAREN ∷ [], called function (nought_spelled number)))
+      (λ opened. (expr.Call function nought, Number 0 ∷ Symbol symbol.RIGHT_PAREN ∷ [], function_call function (nought_spelled number)))
       (λ opened used rest whole is ends.
       reads_made (λ e used. SpellsExpr number 7 e (call_token function ∷ Symbol symbol.LEFT_PAREN ∷ used)) (λ e. expr.Call function e) (λ y e. expr.Call function e)
-      (λ e used closed. subst (λ all. SpellsExpr number 7 (expr.Call function e) (call_token function ∷ Symbol symbol.LEFT_PAREN ∷ all)) (sym closed.1) (called function closed.2))
+      (λ e used closed. subst (λ all. SpellsExpr number 7 (expr.Call function e) (call_token function ∷ Symbol symbol.LEFT_PAREN ∷ all)) (sym closed.1) (function_call function closed.2))
       (reads_as Closed Anything (λ (y : X × Unit {0}) (later : Kinds). enclosed_at (inners y.0) later) (λ e used closed. closed) (λ rest ends. ends) (λ y. (y.0, λ later. refl))
       (reads_enclosed rest (left_below tokens used rest most whole few))))
       (reads_symbol symbol.LEFT_PAREN tokens)

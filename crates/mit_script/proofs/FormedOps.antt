@@ -97,7 +97,7 @@ column_unnamed column tokens spelled = ap names_in spelled
 listed_unnamed : {A : Type 0} {Item : A → Kinds → Type 0} → ((item : A) (tokens : Kinds) → Item item tokens → names_in tokens ≡ [])
     → {items : List A} {tokens : Kinds} → Listed Item items tokens → names_in tokens ≡ []
 unfolding names_in
-listed_unnamed each (Grammar.single first) = each _ _ first
+listed_unnamed each (Grammar.single_item first) = each _ _ first
 listed_unnamed each (Grammar.and_more first more) = rw (names_in-append, each _ _ first) (listed_unnamed each more)
 
 -- what stands between brackets or parentheses, or in front of a last token without a name
@@ -117,7 +117,7 @@ expr_counted (Grammar.text_literal bytes) = counted-Lit _
 expr_counted (Grammar.truth_literal holds) = rw truth_unnamed (counted-Lit _)
 expr_counted (Grammar.column_place place) = counted-Column place
 expr_counted (Grammar.captured_name name) = counted-Capture _
-expr_counted (Grammar.called {tokens = tokens} function e) =
+expr_counted (Grammar.function_call {tokens = tokens} function e) =
     rw (names_in-call, names_enclosed tokens _ refl) (counted-Call function (expr_counted e))
 expr_counted (Grammar.enclosed {tokens = tokens} e) = rw (names_enclosed tokens _ refl) (expr_counted e)
 
@@ -134,7 +134,7 @@ single_named (Grammar.text_literal bytes) named = absurd (false≢true (sym (is_
 single_named (Grammar.truth_literal holds) named = absurd (false≢true (sym (is_name-Lit _) ∙ named))
 single_named (Grammar.column_place place) named = absurd (false≢true (sym (is_name-Column _) ∙ named))
 single_named (Grammar.captured_name name) named = refl
-single_named (Grammar.called function e) named = absurd (false≢true (sym (is_name-Call _ _) ∙ named))
+single_named (Grammar.function_call function e) named = absurd (false≢true (sym (is_name-Call _ _) ∙ named))
 single_named (Grammar.enclosed {tokens = tokens} e) named = rw (names_enclosed tokens _ refl) (single_named e named)
 
 -- ---- operators
@@ -159,7 +159,7 @@ captured_all all = all.captures 0 ∙ omega arith
 exprs_counted : {number : List ℕ → ℕ} {exprs : List Expr} {tokens : Kinds} → Listed (SpellsExpr number 0) exprs tokens
     → CountedAll exprs (map number (names_in tokens))
 unfolding names_in
-exprs_counted (Grammar.single e) = counted_one (expr_counted e)
+exprs_counted (Grammar.single_item e) = counted_one (expr_counted e)
 exprs_counted {number} (Grammar.and_more {items = items} {tokens = tokens} {others = others} e more) =
     let one = expr_counted e in
     let rest = exprs_counted more in

@@ -16,7 +16,7 @@ use Rattle.mit_expr.specs.declared.expr.Expr.TheOpen as layer
 use Rattle.mit_lex.specs.Valid.{IsToken}
 use Rattle.mit_lex.specs.declared.token.TokenKind.TheVariants.{Number, Symbol}
 use Rattle.mit_lex.specs.declared.symbol.TheConstants as symbol
-use Rattle.mit_script.specs.Grammar.{Kinds, SpellsExpr, left_rank, names_in, rank_of, right_rank, stronger, binary, negated, positive, negative, text_literal, truth_literal, column_place, captured_name, called, enclosed}
+use Rattle.mit_script.specs.Grammar.{Kinds, SpellsExpr, left_rank, names_in, rank_of, right_rank, stronger, binary, negated, positive, negative, text_literal, truth_literal, column_place, captured_name, function_call, enclosed}
 use Rattle.mit_script.specs.PrintedTokens as printed
 use Rattle.mit_script.specs.PrintedTokens.{argument_name, ranked_tokens, expr_step, literal_tokens}
 use Rattle.mit_script.proofs.NamesOnce.{names_in-append, names_in-operator}
@@ -120,10 +120,10 @@ expr_reprint names captured number (column_place place) known want low =
 expr_reprint names captured number (captured_name name) known want low =
     let once = rw names_in-name at known in
     rw (layer_tokens names captured want (layer.Capture (number name)) (rolls-Capture (number name)), once.0) (as_it_is want low (captured_name name))
-expr_reprint names captured number (called {e = a} function spelled) known want low =
+expr_reprint names captured number (function_call {e = a} function spelled) known want low =
     let one = expr_reprint names captured number spelled (rw names_in-called at known) 0 (omega arith) in
     rw (layer_tokens names captured want (layer.Call function a) (rolls-Call function a))
-    (alone want low (reprint (called function one.spelled) (same_cons (same_cons (same_append one.same same_refl)))))
+    (alone want low (reprint (function_call function one.spelled) (same_cons (same_cons (same_append one.same same_refl)))))
 expr_reprint names captured number (enclosed {tokens = inner} spelled) known want low =
     let one = expr_reprint names captured number spelled (rw names_in-enclosed at known) want low in
     reprint one.spelled (record {

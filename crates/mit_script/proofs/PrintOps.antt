@@ -15,7 +15,7 @@ use Rattle.mit_lex.specs.Valid.{IsName, IsToken}
 use Rattle.mit_lex.specs.declared.token.TokenKind.TheVariants.{Name, Text, Symbol, Keyword}
 use Rattle.mit_lex.specs.declared.symbol.TheConstants as symbol
 use Rattle.mit_lex.specs.declared.keyword.TheConstants as word
-use Rattle.mit_script.specs.Grammar.{Kinds, Listed, single, and_more, SpellsExpr, SpellsType, SpellsColumn, SpellsRight, SpellsWrite, SpellsCondition, SpellsOver, each_once, is_name, names_in, number_in, read_form, map_form, filter_form, words_form, range_form, join_form, reduce_form, union_form, distinct_form, only_form, count_form, sum_form, row_form, empty_form, copy_form, scalar_form, write_form, condition_form, stronger, binary, negated, positive, negative, text_literal, truth_literal, column_place, captured_name, called, enclosed}
+use Rattle.mit_script.specs.Grammar.{Kinds, Listed, single_item, and_more, SpellsExpr, SpellsType, SpellsColumn, SpellsRight, SpellsWrite, SpellsCondition, SpellsOver, each_once, is_name, names_in, number_in, read_form, map_form, filter_form, words_form, range_form, join_form, reduce_form, union_form, distinct_form, only_form, count_form, sum_form, row_form, empty_form, copy_form, scalar_form, write_form, condition_form, stronger, binary, negated, positive, negative, text_literal, truth_literal, column_place, captured_name, function_call, enclosed}
 use Rattle.mit_script.specs.PrintedTokens.{column_tokens, columns_tokens, comma, expr_tokens, argument_name, op_tokens, type_tokens}
 use Rattle.mit_script.proofs.NamesSingle.{is_name-Bin, is_name-Call, is_name-Capture, is_name-Column, is_name-Lit, is_name-Not}
 use Rattle.mit_script.proofs.NamesOnce.{names_in-append}
@@ -39,14 +39,14 @@ names_back P tokens others each = each_back P (names_in tokens) (names_in others
 
 joined : {A : Type 0} (Item : A → Kinds → Type 0) (f : A → Kinds) (item : A) {items : List A} {tokens : Kinds} → Listed Item items tokens
     → join_by f comma (item ∷ items) ≡ f item ++ Symbol symbol.COMMA ∷ join_by f comma items
-joined Item f item (single first) = refl
+joined Item f item (single_item first) = refl
 joined Item f item (and_more first more) = refl
 
 listed_reprint : {A : Type 0} (Item : A → Kinds → Type 0) (f : A → Kinds) (P : List ℕ → Type 0)
     → ((item : A) (tokens : Kinds) → Item item tokens → Each P (names_in tokens) → Reprint (Item item) (f item) tokens)
     → {items : List A} {tokens : Kinds} → Listed Item items tokens → Each P (names_in tokens) → Reprint (Listed Item items) (join_by f comma items) tokens
-listed_reprint Item f P each (single {item = item} {tokens = tokens} spelled) known =
-    let one = each item tokens spelled known in rw (append-nil (f item)) (reprint (single one.spelled) one.same)
+listed_reprint Item f P each (single_item {item = item} {tokens = tokens} spelled) known =
+    let one = each item tokens spelled known in rw (append-nil (f item)) (reprint (single_item one.spelled) one.same)
 listed_reprint Item f P each (and_more {item = item} {tokens = tokens} {others = others} spelled listed) known =
     let rest = Symbol symbol.COMMA ∷ others in
     let one = each item tokens spelled (names_front P tokens rest known) in
@@ -78,7 +78,7 @@ columns_part {tokens = tokens} listed =
 -- columns have no names
 columns_nameless : {columns : List ℕ} {tokens : Kinds} → Listed SpellsColumn columns tokens → names_in tokens ≡ []
 unfolding names_in
-columns_nameless (single is) = rw is refl
+columns_nameless (single_item is) = rw is refl
 columns_nameless (and_more {tokens = tokens} {others = others} is listed) =
     names_in-append tokens (Symbol symbol.COMMA ∷ others) ∙ rw (is, columns_nameless listed) refl
 
@@ -103,7 +103,7 @@ single_name (text_literal bytes) is = cc (is_name-Lit (value.Text bytes))
 single_name (truth_literal holds) is = cc (is_name-Lit (value.Bool holds))
 single_name (column_place place) is = cc (is_name-Column place)
 single_name (captured_name name) is = record { name = name; alone = names_in-name name; valid = λ valid. valid.0 }
-single_name (called {e = a} function spelled) is = cc (is_name-Call function a)
+single_name (function_call {e = a} function spelled) is = cc (is_name-Call function a)
 single_name (enclosed {tokens = inner} spelled) is =
     let one = single_name spelled is in
     record {

@@ -7,7 +7,7 @@ use Rattle.std.proofs.lemmas.List.Elements.{recursion_from_All}
 use Rattle.mit_lex.specs.declared.limits.TheConstants.{MAX_SCRIPT}
 use Rattle.mit_lex.specs.Tokens.{scanned, tokens_of}
 use Rattle.mit_lex.specs.Valid.{IsToken}
-use Rattle.mit_lex.specs.Written.{IsWrittenAs, no_more}
+use Rattle.mit_lex.specs.Written.{IsWrittenAs, nothing_written}
 use Rattle.mit_script.specs.Grammar.{IsSpelled, Kinds, each_once, names_in}
 use Rattle.mit_script.specs.Printed.{block_lines, printed}
 use Rattle.mit_script.specs.PrintsBack.{CanBeSpelled, KeepsLimits, PrintsBack, cut}
@@ -27,7 +27,7 @@ pub record WritingLaw : Type 0 where
 -- what is printed prints back
 pub prints_back : WritingLaw → (script : Script) (text : List ℕ) → text ≡ printed script → CanBeSpelled script → PrintsBack script text
 prints_back law script text is can =
-    let all = body_relined script.names can.spelled.body (found_names script.names can.tokens can.spelled.named) [] no_more in
+    let all = body_relined script.names can.spelled.body (found_names script.names can.tokens can.spelled.named) [] nothing_written in
     let lines = block_lines script.names script.body [] in
     let valid = all.one.same.valid (recursion_from_All IsToken can.tokens can.valid) in
     let laid : IsWrittenAs text (lines_tokens lines) = rw is (lines_written lines all.indented valid) in

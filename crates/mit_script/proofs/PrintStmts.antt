@@ -4,7 +4,7 @@ use Rattle.std.specs.List.{AllByRecursion as Each}
 use Rattle.std.proofs.lemmas.Grind.{flat_map-append}
 use Rattle.std.proofs.lemmas.List.{append-nil}
 use Rattle.mit_lex.specs.Valid.{IsToken}
-use Rattle.mit_lex.specs.Written.{IsWrittenAs, gap_first, no_more as no_text, token_first, token_text}
+use Rattle.mit_lex.specs.Written.{IsWrittenAs, gap_first, nothing_written, token_first, token_text}
 use Rattle.mit_lex.specs.declared.token.TokenKind.{TokenKind}
 use Rattle.mit_lex.specs.declared.token.TokenKind.TheVariants.{Name, Symbol, Keyword}
 use Rattle.mit_lex.specs.declared.symbol.TheConstants as symbol
@@ -46,7 +46,7 @@ IsIndented (line_of indent tokens last) = IsWrittenAs indent []
 
 -- the indentation of a block
 deeper_blank : {indent : List ℕ} → IsWrittenAs indent [] → IsWrittenAs (deeper indent) []
-deeper_blank no_text = gap_first 32 (inl refl) (gap_first 32 (inl refl) no_text)
+deeper_blank nothing_written = gap_first 32 (inl refl) (gap_first 32 (inl refl) nothing_written)
 deeper_blank (gap_first gap is_gap later) = gap_first gap is_gap (deeper_blank later)
 
 -- ---- statements
@@ -233,12 +233,12 @@ spaced_written (kind ∷ kinds) {text = text} valid later =
 
 -- gaps before a text
 gaps_written : {indent text : List ℕ} {kinds : Kinds} → IsWrittenAs indent [] → IsWrittenAs text kinds → IsWrittenAs (indent ++ text) kinds
-gaps_written no_text later = later
+gaps_written nothing_written later = later
 gaps_written (gap_first gap is_gap more) later = gap_first gap is_gap (gaps_written more later)
 
 -- indented lines are written as their tokens
 pub lines_written : (lines : List Line) → Each IsIndented lines → Each IsToken (lines_tokens lines) → IsWrittenAs (lines_text lines) (lines_tokens lines)
-lines_written [] indented valid = no_text
+lines_written [] indented valid = nothing_written
 lines_written (line_of indent tokens last ∷ lines) indented valid =
     let front = each_front IsToken (tokens ++ last ∷ []) (lines_tokens lines) valid in
     let later = lines_written lines indented.1 (each_back IsToken (tokens ++ last ∷ []) (lines_tokens lines) valid) in

@@ -42,9 +42,9 @@ expr_by other (Grammar.truth_literal holds) =
 expr_by other (Grammar.column_place place) = record { tree = expr.Column place; spelled = Grammar.column_place place; alike = refl }
 expr_by other (Grammar.captured_name name) =
     record { tree = expr.Capture (other name); spelled = Grammar.captured_name name; alike = is_name-Capture _ ∙ sym (is_name-Capture _) }
-expr_by other (Grammar.called function e) =
+expr_by other (Grammar.function_call function e) =
     let inner = expr_by other e in
-    record { tree = expr.Call function inner.tree; spelled = Grammar.called function inner.spelled; alike = is_name-Call _ _ ∙ sym (is_name-Call _ _) }
+    record { tree = expr.Call function inner.tree; spelled = Grammar.function_call function inner.spelled; alike = is_name-Call _ _ ∙ sym (is_name-Call _ _) }
 expr_by other (Grammar.enclosed e) =
     let inner = expr_by other e in
     record { tree = inner.tree; spelled = Grammar.enclosed inner.spelled; alike = inner.alike }
@@ -60,9 +60,9 @@ record RenamedExprs (other : List ℕ → ℕ) (tokens : Kinds) : Type 0 where
 
 exprs_by : {number : List ℕ → ℕ} (other : List ℕ → ℕ) {exprs : List Expr} {tokens : Kinds}
     → Listed (SpellsExpr number 0) exprs tokens → RenamedExprs other tokens
-exprs_by other (Grammar.single e) =
+exprs_by other (Grammar.single_item e) =
     let first = expr_by other e in
-    record { trees = first.tree ∷ []; spelled = Grammar.single first.spelled }
+    record { trees = first.tree ∷ []; spelled = Grammar.single_item first.spelled }
 exprs_by other (Grammar.and_more e more) =
     let first = expr_by other e in
     let rest = exprs_by other more in

@@ -11,7 +11,7 @@ use Rattle.mit_lex.specs.declared.token.TokenKind.TheVariants.{Name, Column, Tex
 use Rattle.mit_lex.specs.declared.symbol.TheConstants as symbol
 use Rattle.mit_lex.specs.declared.keyword.TheConstants as word
 use Rattle.mit_script.specs.Grammar.{Kinds, agg_tokens, SpellsWrite, write_form, SpellsCondition, condition_form}
-use Rattle.mit_script.specs.Reading.{Reading, ◌>>=◌, expect_word, sees_word, after_next, column_at, of_column, agg_at, read_at, map_at, filter_at, words_at, range_at, flat_by, flat_at, join_at, reduce_at, union_at, of_bag_at, sum_at, row_at, empty_at, copy_or_scalar, scalar_at, write_at, condition_at}
+use Rattle.mit_script.specs.Reading.{Reading, ◌>>=◌, expect_word, sees_word, after_next, column_at, of_column, agg_at, read_at, map_at, filter_at, words_at, range_at, flat_by, flat_at, join_at, reduce_at, union_at, of_bag_at, sum_at, row_form_at, empty_at, copy_or_scalar, scalar_at, write_form_at, condition_at}
 use Rattle.mit_script.proofs.Readers.{first_of}
 use Rattle.mit_script.proofs.StmtReaders.{Spelling, Reader, IsReader, One, one, Bind, both, Made, made, make, along, convert, Pure, pure, reads_pure, Or, this, other}
 use Rattle.mit_script.proofs.StmtTokens.{Whatever, SymbolOf, WordOf, reads_one_name, reads_one_column, reads_one_text, AfterWord, AfterSymbol, after_word, after_symbol, choose_word, EndsList}
@@ -211,8 +211,8 @@ reads_sum = then_any reads_one_name (make reads_one_column (λ q column. kind.Su
 abbrev pub RowForm : Spelling Numbers OpSpec
 RowForm = Made Exprs (λ number exprs. kind.MakeRow exprs)
 
-pub reads_row : {top slack : ℕ} → IsReader top slack RowForm Whatever (λ number left most. row_at number most)
-unfolding row_at
+pub reads_row : {top slack : ℕ} → IsReader top slack RowForm Whatever (λ number left most. row_form_at number most)
+unfolding row_form_at
 reads_row = make reads_exprs (λ number exprs. kind.MakeRow exprs)
 
 abbrev pub EmptyForm : Spelling Numbers OpSpec
@@ -241,8 +241,8 @@ is_write number op tokens (both one (both (one {a = bag}) (both one (made x)))) 
 write_is : (number : Numbers) (op : OpSpec) (tokens : Kinds) → SpellsWrite number op tokens → WriteForm number op tokens
 write_is number op tokens (write_form bag x) = both one (both one (both one (made x)))
 
-pub reads_write : {top slack : ℕ} → IsReader top slack SpellsWrite EndsExpr (λ number left most. write_at number most)
-unfolding write_at
+pub reads_write : {top slack : ℕ} → IsReader top slack SpellsWrite EndsExpr (λ number left most. write_form_at number most)
+unfolding write_form_at
 reads_write {slack = slack} = convert
     (after_word slack word.WRITE (omega arith) (then_any reads_one_name (after_word slack word.TO (omega arith) (make (along (λ q. q.0) reads_expr) (λ q name. kind.Write name)))))
     is_write write_is (λ next e. e) (λ number left most tokens. refl)

@@ -6,7 +6,7 @@ use Rattle.mit_lex.specs.declared.token.TokenKind.{TokenKind}
 use Rattle.mit_lex.specs.declared.token.TokenKind.TheVariants.{Symbol}
 use Rattle.mit_lex.specs.declared.symbol.TheConstants as symbol
 use Rattle.mit_script.specs.Grammar.{Kinds, Listed, SpellsType, SpellsColumn, SpellsExpr, stronger, positive}
-use Rattle.mit_script.specs.Reading.{column_at, type_at, any_expression, exprs_at, types_at, columns_at}
+use Rattle.mit_script.specs.Reading.{column_at, type_word_at, any_expression, exprs_at, types_at, columns_at}
 use Rattle.mit_script.proofs.Readers.{Anything, first_of, reads_as}
 use Rattle.mit_script.proofs.ExprFacts.{ends_none, first_operator, operator_at-first}
 use Rattle.mit_script.proofs.ExprComplete.{expressions_complete}
@@ -97,7 +97,7 @@ pub reads_types : {P : Type 0} {top slack : ℕ} → IsReader {P = P} top slack 
 unfolding types_at
 reads_types {slack = slack} =
     after_symbol slack symbol.LEFT_PAREN (omega arith)
-    (follow (reads_list (λ p. SpellsType) Whatever (λ p most. type_at) (λ top slack. reads_the_type) tt) (make (reads_one_symbol symbol.RIGHT_PAREN) (λ q end. q.1))
+    (follow (reads_list (λ p. SpellsType) Whatever (λ p most. type_word_at) (λ top slack. reads_the_type) tt) (make (reads_one_symbol symbol.RIGHT_PAREN) (λ q end. q.1))
     (begins_made (SymbolOf symbol.RIGHT_PAREN) (λ q end. q.1) (EndsList Whatever) (begins_one (λ u. Symbol symbol.RIGHT_PAREN) (EndsList Whatever) (λ u. (tt, refl)))))
 
 -- columns with commas between

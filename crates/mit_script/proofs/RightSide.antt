@@ -10,8 +10,8 @@ use Rattle.mit_ops.specs.declared.kinds.OpSpec.TheVariants as kind
 use Rattle.mit_lex.specs.declared.token.TokenKind.TheVariants.{Name, Symbol, Keyword}
 use Rattle.mit_lex.specs.declared.symbol.TheConstants as symbol
 use Rattle.mit_lex.specs.declared.keyword.TheConstants as word
-use Rattle.mit_script.specs.Grammar.{Kinds, SpellsExpr, stronger, binary, negated, positive, negative, text_literal, truth_literal, column_place, captured_name, called, enclosed, operator_token, truth_token, call_token, is_name, SpellsRight, read_form, map_form, filter_form, words_form, range_form, join_form, reduce_form, union_form, distinct_form, only_form, count_form, sum_form, row_form, empty_form, copy_form, scalar_form, SpellsWrite, write_form, SpellsCondition, condition_form}
-use Rattle.mit_script.specs.Reading.{sees_word, after_next, bags_ahead, read_at, map_at, filter_at, flat_at, join_at, reduce_at, union_at, of_bag_at, sum_at, row_at, empty_at, copy_or_scalar, scalar_at, right_at}
+use Rattle.mit_script.specs.Grammar.{Kinds, SpellsExpr, stronger, binary, negated, positive, negative, text_literal, truth_literal, column_place, captured_name, function_call, enclosed, operator_token, truth_token, call_token, is_name, SpellsRight, read_form, map_form, filter_form, words_form, range_form, join_form, reduce_form, union_form, distinct_form, only_form, count_form, sum_form, row_form, empty_form, copy_form, scalar_form, SpellsWrite, write_form, SpellsCondition, condition_form}
+use Rattle.mit_script.specs.Reading.{sees_word, after_next, bags_ahead, read_at, map_at, filter_at, flat_at, join_at, reduce_at, union_at, of_bag_at, sum_at, row_form_at, empty_at, copy_or_scalar, scalar_at, right_at}
 use Rattle.mit_script.proofs.Renamed.{expr_renamed}
 use Rattle.mit_script.proofs.StmtReaders.{Spelling, Reader, IsReader, one, both, made, convert, Or, this, other}
 use Rattle.mit_script.proofs.StmtTokens.{AfterWord, choose_word}
@@ -103,7 +103,7 @@ expr_begins number rank e tokens after (text_literal bytes) = (refl, refl)
 expr_begins number rank e tokens after (truth_literal holds) = begins_truth holds after
 expr_begins number rank e tokens after (column_place place) = (refl, refl)
 expr_begins number rank e tokens after (captured_name name) = (refl, refl)
-expr_begins number rank e tokens after (called function x) = begins_call function _
+expr_begins number rank e tokens after (function_call function x) = begins_call function _
 expr_begins number rank e tokens after (enclosed x) = (refl, refl)
 
 -- ---- the chain of forms
@@ -127,7 +127,7 @@ right_by_words number left most tokens =
     else (if sees_word word.JOIN tokens then join_at most (after_next tokens) else (if sees_word word.REDUCE tokens then reduce_at most (after_next tokens)
     else (if sees_word word.UNION tokens then union_at (after_next tokens) else (if sees_word word.DISTINCT tokens then of_bag_at kind.Distinct (after_next tokens)
     else (if sees_word word.ONLY tokens then of_bag_at kind.Only (after_next tokens) else (if sees_word word.COUNT tokens then of_bag_at kind.Count (after_next tokens)
-    else (if sees_word word.SUM tokens then sum_at (after_next tokens) else (if sees_word word.ROW tokens then row_at number most (after_next tokens)
+    else (if sees_word word.SUM tokens then sum_at (after_next tokens) else (if sees_word word.ROW tokens then row_form_at number most (after_next tokens)
     else (if sees_word word.EMPTY tokens then empty_at most (after_next tokens) else scalar_at number most tokens))))))))))))
 
 -- it is the reader of the right side

@@ -84,7 +84,7 @@ column_in_run column tokens spelled = rw spelled (lone refl)
 -- a list of what stands in a run stands in a run
 listed_in_run : {A : Type 0} {Item : A → Kinds → Type 0} → ((item : A) (tokens : Kinds) → Item item tokens → Run tokens)
     → {items : List A} {tokens : Kinds} → Listed Item items tokens → Run tokens
-listed_in_run each (Grammar.single first) = each _ _ first
+listed_in_run each (Grammar.single_item first) = each _ _ first
 listed_in_run each (Grammar.and_more first more) = Run-append (each _ _ first) (after refl (listed_in_run each more))
 
 expr_in_run : {number : List ℕ → ℕ} {rank : ℕ} {e : Expr} {tokens : Kinds} → SpellsExpr number rank e tokens → Run tokens
@@ -97,7 +97,7 @@ expr_in_run (Grammar.text_literal bytes) = lone refl
 expr_in_run (Grammar.truth_literal holds) = lone (truth_goes_on holds)
 expr_in_run (Grammar.column_place place) = lone refl
 expr_in_run (Grammar.captured_name name) = lone refl
-expr_in_run (Grammar.called function spelled) = after (call_goes_on function) (after refl (Run-append (expr_in_run spelled) (lone refl)))
+expr_in_run (Grammar.function_call function spelled) = after (call_goes_on function) (after refl (Run-append (expr_in_run spelled) (lone refl)))
 expr_in_run (Grammar.enclosed spelled) = after refl (Run-append (expr_in_run spelled) (lone refl))
 
 -- expressions, types and columns with commas between

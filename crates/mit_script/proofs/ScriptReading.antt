@@ -2,7 +2,7 @@
 use Rattle.std.proofs.Common.{◌≡◌, ℕ, ◌+◌, ◌<◌, ◌≤◌, List, [], ◌∷◌, ◌++◌, length, Result, Ok, Err, MatchResult, refl, ap, sym, subst, ◌∙◌, arith, append_assoc, append-nil}
 use Rattle.mit_lex.specs.declared.token.TokenKind.{TokenKind}
 use Rattle.mit_script.specs.Grammar.{Kinds, IsRefused, Spells, SpellsBody, StopsBefore, each_once, names_in}
-use Rattle.mit_script.specs.Reading.{Reading, ended, read_script, statements, with_names}
+use Rattle.mit_script.specs.Reading.{Reading, ended_reading, read_script, statements, with_names}
 use Rattle.mit_script.specs.declared.tree.Script.{Script}
 use Rattle.mit_script.specs.declared.tree.Stmt.{Stmt}
 use Rattle.mit_script.proofs.Readers.{first_of, ok_once, ok_or_err, reads_err, reads_ok, some_or_none}
@@ -89,7 +89,7 @@ Gives tokens result = MatchResult result (λ script. Spells script tokens) (λ r
 
 -- what the statements that were read give
 read_gives : (tokens : Kinds) (read : Reading (List Stmt)) → statements (each_once (names_in tokens)) (length tokens + 1) (length tokens + 1) tokens ≡ read
-    → Gives tokens (with_names (each_once (names_in tokens)) (ended read))
+    → Gives tokens (with_names (each_once (names_in tokens)) (ended_reading read))
 read_gives tokens (Ok (body, [])) is =
     let x = reads_ok body [] ((reads_body 0 (length tokens + 1)).reads (each_once (names_in tokens)) 0 (length tokens + 1) tokens (fits _ tokens (omega arith))) is in
     record { named = refl; body = subst (SpellsBody (each_once (names_in tokens)) body) (sym (append-nil x.0) ∙ sym x.1) x.2 }

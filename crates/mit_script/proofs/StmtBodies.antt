@@ -4,7 +4,7 @@ use Rattle.std.proofs.lemmas.Bool.Decides.{eqb_tells}
 use Rattle.mit_lex.specs.declared.token.TokenKind.{TokenKind}
 use Rattle.mit_lex.specs.declared.token.TokenKind.TheVariants.{Keyword}
 use Rattle.mit_lex.specs.declared.keyword.TheConstants as word
-use Rattle.mit_script.specs.Grammar.{Kinds, SpellsStmt, assign, write as write_spelled, branch as branch_spelled, loop as loop_spelled, SpellsBody, no_more, followed}
+use Rattle.mit_script.specs.Grammar.{Kinds, SpellsStmt, assign, write, branch, loop, SpellsBody, no_more, followed}
 use Rattle.mit_script.specs.Reading.{begins_statement, statements}
 use Rattle.mit_script.specs.declared.tree.Stmt.{Stmt}
 use Rattle.mit_script.proofs.Readers.{first_of}
@@ -15,9 +15,9 @@ use Rattle.mit_script.proofs.StmtForms.{Names, EndsStmt, EndsBody, begins-first,
 stmt_begins : (names : Names) (s : Stmt) (tokens after : Kinds) → SpellsStmt names s tokens → begins_statement (tokens ++ after) ≡ true
 unfolding begins_statement
 stmt_begins names s tokens after (assign target x) = refl
-stmt_begins names s tokens after (write_spelled {op = op} {tokens = front} x) = write_begins _ op front _ after x.form
-stmt_begins names s tokens after (branch_spelled x y z) = refl
-stmt_begins names s tokens after (loop_spelled x y) = refl
+stmt_begins names s tokens after (write {op = op} {tokens = front} x) = write_begins _ op front _ after x.form
+stmt_begins names s tokens after (branch x y z) = refl
+stmt_begins names s tokens after (loop x y) = refl
 
 -- so it has a token
 nonempty : (tokens : Kinds) → begins_statement tokens ≡ true → 1 ≤ 0 + length tokens

@@ -5,8 +5,8 @@ use Rattle.mit_lex.specs.declared.token.TokenKind.{TokenKind}
 use Rattle.mit_lex.specs.declared.token.TokenKind.TheVariants.{Name, Symbol, Keyword}
 use Rattle.mit_lex.specs.declared.symbol.TheConstants as symbol
 use Rattle.mit_lex.specs.declared.keyword.TheConstants as word
-use Rattle.mit_script.specs.Grammar.{Kinds, SpellsRight, SpellsWrite, write_form, SpellsCondition, SpellsStmt, assign, write as write_spelled, branch as branch_spelled, loop as loop_spelled, SpellsElse, without, otherwise, SpellsBody, number_in}
-use Rattle.mit_script.specs.Reading.{Operation, assignment, begins_statement, block_at, branch, condition_at, else_at, loop, right_at, sees_word, statement, write, write_at}
+use Rattle.mit_script.specs.Grammar.{Kinds, SpellsRight, SpellsWrite, write_form, SpellsCondition, SpellsStmt, assign, write, branch, loop, SpellsElse, without, otherwise, SpellsBody, number_in}
+use Rattle.mit_script.specs.Reading.{Operation, assignment, begins_statement, condition_at, else_at, if_statement, rest_of_block, right_at, sees_word, statement, while_statement, write_form_at, write_statement}
 use Rattle.mit_script.specs.declared.tree.Stmt.{Stmt}
 use Rattle.mit_script.specs.declared.tree.Stmt.TheVariants as stmt
 use Rattle.mit_script.proofs.Readers.{first_is_word, first_of, sees_word-first, word_local}
@@ -27,7 +27,7 @@ Names = List (List ℕ)
 right_is_form : IsForm SpellsRight EndsRight right_at symbol.SEMICOLON
 right_is_form = record { reads = λ top slack. reads_right_side; in_run = right_run; bags = right_bags; renamed = right_renamed; ends = (refl, refl); ends_it = refl }
 
-write_is_form : IsForm SpellsWrite EndsExpr write_at symbol.SEMICOLON
+write_is_form : IsForm SpellsWrite EndsExpr write_form_at symbol.SEMICOLON
 write_is_form = record {
   reads = λ top slack. reads_write;
   in_run = write_run;
@@ -102,9 +102,9 @@ reads_assignment {slack = slack} =
 abbrev WriteForm : Spelling Names Stmt
 WriteForm = Made WriteEnded (λ names made. stmt.Write made.0 made.1)
 
-reads_write_stmt : {top slack : ℕ} → IsReader top slack WriteForm Whatever (λ names left most. write names most)
-unfolding write
-reads_write_stmt = make (reads_operation SpellsWrite EndsExpr write_at symbol.SEMICOLON write_is_form) (λ names made. stmt.Write made.0 made.1)
+reads_write_stmt : {top slack : ℕ} → IsReader top slack WriteForm Whatever (λ names left most. write_statement names most)
+unfolding write_statement
+reads_write_stmt = make (reads_operation SpellsWrite EndsExpr write_form_at symbol.SEMICOLON write_is_form) (λ names made. stmt.Write made.0 made.1)
 
 -- it begins with its keyword
 write_seen : (names : Names) (s : Stmt) (tokens after : Kinds) → WriteForm names s tokens → sees_word word.WRITE (tokens ++ after) ≡ true
@@ -126,8 +126,8 @@ Inner = Reader Names (List Stmt)
 abbrev Block : Spelling Names (List Stmt)
 Block = Bind SpellsBody (Made (SymbolOf symbol.RIGHT_BRACE) (λ q end. q.1))
 
-reads_block : {top slack : ℕ} (inner : Inner) → IsReader top slack SpellsBody EndsBody inner → IsReader top slack Block Whatever (λ names left most. block_at (inner names left most))
-unfolding block_at
+reads_block : {top slack : ℕ} (inner : Inner) → IsReader top slack SpellsBody EndsBody inner → IsReader top slack Block Whatever (λ names left most. rest_of_block (inner names left most))
+unfolding rest_of_block
 reads_block inner reads = follow reads (make (reads_one_symbol symbol.RIGHT_BRACE) (λ q end. q.1))
     (begins_made (SymbolOf symbol.RIGHT_BRACE) (λ q end. q.1) EndsBody (begins_one (λ u. Symbol symbol.RIGHT_BRACE) EndsBody (λ u. (refl, refl))))
 
@@ -159,8 +159,8 @@ reads_else {slack = slack} inner reads = convert
 abbrev BranchForm : Spelling Names Stmt
 BranchForm = Bind ConditionEnded (Bind (λ q. Block q.0) (Made (λ q. SpellsElse q.0.0) (λ q no_block. stmt.If q.0.1.0 q.0.1.1 q.1 no_block)))
 
-reads_branch : {top : ℕ} (inner : Inner) → IsReader top 0 SpellsBody EndsBody inner → IsReader top 1 BranchForm EndsStmt (λ names left most. branch (inner names left most) names most)
-unfolding branch
+reads_branch : {top : ℕ} (inner : Inner) → IsReader top 0 SpellsBody EndsBody inner → IsReader top 1 BranchForm EndsStmt (λ names left most. if_statement (inner names left most) names most)
+unfolding if_statement
 reads_branch inner reads =
     bind_within 0 (reads_operation SpellsCondition EndsExpr condition_at symbol.LEFT_BRACE condition_is_form)
     (then_any (along (λ q. q.0) (reads_block inner reads)) (make (along (λ q. q.0.0) (reads_else inner reads)) (λ q no_block. stmt.If q.0.1.0 q.0.1.1 q.1 no_block)))
@@ -170,8 +170,8 @@ reads_branch inner reads =
 abbrev LoopForm : Spelling Names Stmt
 LoopForm = Bind ConditionEnded (Made (λ q. Block q.0) (λ q body. stmt.While q.1.0 q.1.1 body))
 
-reads_loop : {top : ℕ} (inner : Inner) → IsReader top 0 SpellsBody EndsBody inner → IsReader top 1 LoopForm Whatever (λ names left most. loop (inner names left most) names most)
-unfolding loop
+reads_loop : {top : ℕ} (inner : Inner) → IsReader top 0 SpellsBody EndsBody inner → IsReader top 1 LoopForm Whatever (λ names left most. while_statement (inner names left most) names most)
+unfolding while_statement
 reads_loop inner reads =
     bind_within 0 (reads_operation SpellsCondition EndsExpr condition_at symbol.LEFT_BRACE condition_is_form)
     (make (along (λ q. q.0) (reads_block inner reads)) (λ q body. stmt.While q.1.0 q.1.1 body))
@@ -231,27 +231,27 @@ assign_of names target s tokens (both one (made (with_end x))) = assign target x
 
 -- the words of the four are those of the grammar
 is_stmt : (names : Names) (s : Stmt) (tokens : Kinds) → StmtForm names s tokens → SpellsStmt names s tokens
-is_stmt names s tokens (this (made (with_end x))) = write_spelled x
+is_stmt names s tokens (this (made (with_end x))) = write x
 is_stmt names s tokens (other (this (both one (both (with_end {op = op} {args = args} {tokens = front} x) (both {a = yes_block} {front = block} {back = others} y z))))) =
     let inside = block_is names yes_block block y in
     let rest = else_of names (op, args) yes_block s others z in
     subst (λ t. SpellsStmt names s t)
     (sym (ap (λ t. Keyword word.IF ∷ (front ++ Symbol symbol.LEFT_BRACE ∷ []) ++ (t ++ others)) inside.1 ∙ two_blocks (Keyword word.IF) (Symbol symbol.LEFT_BRACE) (Symbol symbol.RIGHT_BRACE) front inside.0 others))
-    (subst (λ t. SpellsStmt names t (Keyword word.IF ∷ front ++ Symbol symbol.LEFT_BRACE ∷ inside.0 ++ Symbol symbol.RIGHT_BRACE ∷ others)) (sym rest.1) (branch_spelled x inside.2 rest.2))
+    (subst (λ t. SpellsStmt names t (Keyword word.IF ∷ front ++ Symbol symbol.LEFT_BRACE ∷ inside.0 ++ Symbol symbol.RIGHT_BRACE ∷ others)) (sym rest.1) (branch x inside.2 rest.2))
 is_stmt names s tokens (other (other (this (both one (both (with_end {op = op} {args = args} {tokens = front} x) (made {a = body} {tokens = block} y)))))) =
     let inside = block_is names body block y in
     subst (λ t. SpellsStmt names (stmt.While op args body) t)
     (sym (ap (λ t. Keyword word.WHILE ∷ (front ++ Symbol symbol.LEFT_BRACE ∷ []) ++ t) inside.1 ∙ one_block (Keyword word.WHILE) (Symbol symbol.LEFT_BRACE) (Symbol symbol.RIGHT_BRACE) front inside.0))
-    (loop_spelled x inside.2)
+    (loop x inside.2)
 is_stmt names s tokens (other (other (other (both (one {a = target}) x)))) = assign_of names target s _ x
 
 stmt_is : (names : Names) (s : Stmt) (tokens : Kinds) → SpellsStmt names s tokens → StmtForm names s tokens
 stmt_is names s tokens (assign target x) = other (other (other (both one (both one (made (with_end x))))))
-stmt_is names s tokens (write_spelled x) = this (made (with_end x))
-stmt_is names s tokens (branch_spelled {op = op} {args = args} {yes = yes_block} {«no» = no_block} {tokens = front} {inside = inside} {others = others} x y z) =
+stmt_is names s tokens (write x) = this (made (with_end x))
+stmt_is names s tokens (branch {op = op} {args = args} {yes = yes_block} {«no» = no_block} {tokens = front} {inside = inside} {others = others} x y z) =
     subst (λ t. StmtForm names (stmt.If op args yes_block no_block) t) (two_blocks (Keyword word.IF) (Symbol symbol.LEFT_BRACE) (Symbol symbol.RIGHT_BRACE) front inside others)
     (other (this (both one (both (with_end x) (both (both y (made one)) (made z))))))
-stmt_is names s tokens (loop_spelled {op = op} {args = args} {body = body} {tokens = front} {inside = inside} x y) =
+stmt_is names s tokens (loop {op = op} {args = args} {body = body} {tokens = front} {inside = inside} x y) =
     subst (λ t. StmtForm names (stmt.While op args body) t) (one_block (Keyword word.WHILE) (Symbol symbol.LEFT_BRACE) (Symbol symbol.RIGHT_BRACE) front inside)
     (other (other (this (both one (both (with_end x) (made (both y (made one))))))))
 

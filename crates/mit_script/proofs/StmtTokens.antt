@@ -8,8 +8,8 @@ use Rattle.mit_lex.specs.declared.token.TokenKind.{TokenKind}
 use Rattle.mit_lex.specs.declared.token.TokenKind.TheVariants.{Name, Column, Text, Symbol, Keyword}
 use Rattle.mit_lex.specs.declared.symbol.TheConstants as symbol
 use Rattle.mit_lex.specs.declared.keyword.TheConstants as word
-use Rattle.mit_script.specs.Grammar.{Kinds, Listed, single, and_more, SpellsType, SpellsColumn, type_token}
-use Rattle.mit_script.specs.Reading.{Reading, ◌>>=◌, expect_symbol, expect_word, name_at, column_at, text_at, type_at, sees_symbol, sees_word, after_next, listed}
+use Rattle.mit_script.specs.Grammar.{Kinds, Listed, single_item, and_more, SpellsType, SpellsColumn, type_token}
+use Rattle.mit_script.specs.Reading.{Reading, ◌>>=◌, expect_symbol, expect_word, name_at, column_at, text_at, type_word_at, sees_symbol, sees_word, after_next, listed}
 use Rattle.mit_script.proofs.Readers.{first_of, word_local}
 use Rattle.mit_script.proofs.StmtReaders.{Spelling, Reader, IsReader, IsLocal, TakesOne, One, one, reads_one, Bind, both, bind, bind_within, Made, made, make, along, convert, Pure, pure, reads_pure, Or, this, other, choose, deeper, at_no_depth, widely}
 
@@ -65,8 +65,8 @@ text_takes : TakesOne Text text_at
 unfolding text_at
 text_takes = record { sample = []; at_end = refl; takes = λ a rest. refl; refuses = text_refused }
 
-type_word_refused : (place : ℕ) → ((a : ColType) × (Keyword place ≡ type_token a)) ⊎ ((rest : Kinds) → type_at (Keyword place ∷ rest) ≡ Err (Keyword place ∷ rest))
-unfolding type_at
+type_word_refused : (place : ℕ) → ((a : ColType) × (Keyword place ≡ type_token a)) ⊎ ((rest : Kinds) → type_word_at (Keyword place ∷ rest) ≡ Err (Keyword place ∷ rest))
+unfolding type_word_at
 type_word_refused place = elim (eqb_tells place word.INT) [
   | inl e ↦ inl (Int, ap Keyword e.1)
   | inr e ↦ elim (eqb_tells place word.TEXT) [
@@ -78,19 +78,19 @@ type_word_refused place = elim (eqb_tells place word.INT) [
   ]
 ]
 
-type_refused : (next : TokenKind) → ((a : ColType) × (next ≡ type_token a)) ⊎ ((rest : Kinds) → type_at (next ∷ rest) ≡ Err (next ∷ rest))
-unfolding type_at
+type_refused : (next : TokenKind) → ((a : ColType) × (next ≡ type_token a)) ⊎ ((rest : Kinds) → type_word_at (next ∷ rest) ≡ Err (next ∷ rest))
+unfolding type_word_at
 type_refused (Keyword place) = type_word_refused place
 type_refused _ = inr (λ rest. refl)
 
-type_taken : (type : ColType) (rest : Kinds) → type_at (type_token type ∷ rest) ≡ Ok (type, rest)
-unfolding type_at
+type_taken : (type : ColType) (rest : Kinds) → type_word_at (type_token type ∷ rest) ≡ Ok (type, rest)
+unfolding type_word_at
 type_taken Int rest = refl
 type_taken Letters rest = refl
 type_taken Truth rest = refl
 
-type_takes : TakesOne type_token type_at
-unfolding type_at
+type_takes : TakesOne type_token type_word_at
+unfolding type_word_at
 type_takes = record { sample = Int; at_end = refl; takes = type_taken; refuses = type_refused }
 
 abbrev pub SymbolOf : {P : Type 0} → ℕ → Spelling P (Unit {0})
@@ -125,8 +125,8 @@ is_one token p a tokens is = rw is one
 pub reads_the_column : {P : Type 0} {top slack : ℕ} → IsReader {P = P} top slack (λ p. SpellsColumn) Whatever (λ p left most. column_at)
 reads_the_column = convert reads_one_column (one_is Column) (is_one Column) (λ first e. e) (λ p left most tokens. refl)
 
-pub reads_the_type : {P : Type 0} {top slack : ℕ} → IsReader {P = P} top slack (λ p. SpellsType) Whatever (λ p left most. type_at)
-reads_the_type = convert (reads_one Whatever type_token type_at type_takes) (one_is type_token) (is_one type_token) (λ first e. e) (λ p left most tokens. refl)
+pub reads_the_type : {P : Type 0} {top slack : ℕ} → IsReader {P = P} top slack (λ p. SpellsType) Whatever (λ p left most. type_word_at)
+reads_the_type = convert (reads_one Whatever type_token type_word_at type_takes) (one_is type_token) (is_one type_token) (λ first e. e) (λ p left most tokens. refl)
 
 -- ---- choices by the next token
 
@@ -227,11 +227,11 @@ ListRest R = Or (AfterSymbol symbol.COMMA (Made (λ q. Listed (R q.0)) (λ q ite
 -- an item and what stands after it are a list
 is_listed : {P A : Type 0} (R : Spelling P A) (p : P) (items : List A) (tokens : Kinds) → Bind R (ListRest R) p items tokens → Listed (R p) items tokens
 is_listed R p items tokens (both x (this (both one (made y)))) = and_more x y
-is_listed R p items tokens (both {a = a} {front = front} x (other pure)) = subst (λ t. Listed (R p) (a ∷ []) t) (sym (append-nil front)) (single x)
+is_listed R p items tokens (both {a = a} {front = front} x (other pure)) = subst (λ t. Listed (R p) (a ∷ []) t) (sym (append-nil front)) (single_item x)
 
 -- a list is an item and what stands after it
 list_is : {P A : Type 0} (R : Spelling P A) (p : P) (items : List A) (tokens : Kinds) → Listed (R p) items tokens → Bind R (ListRest R) p items tokens
-list_is R p items tokens (single {item = item} x) = subst (λ t. Bind R (ListRest R) p (item ∷ []) t) (append-nil tokens) (both x (other pure))
+list_is R p items tokens (single_item {item = item} x) = subst (λ t. Bind R (ListRest R) p (item ∷ []) t) (append-nil tokens) (both x (other pure))
 list_is R p items tokens (and_more x y) = both x (this (both one (made y)))
 
 -- a comma, or what follows a list, may follow an item
@@ -249,7 +249,7 @@ none_sees F f p a tokens after pure ends = sees_symbol-first symbol.COMMA after 
 list_at : {P A : Type 0} (R : Spelling P A) (F : Option TokenKind → Type 0) (r : P → ℕ → Kinds → Reading A) → ((top slack : ℕ) → IsReader top slack R F (λ p left most. r p most))
     → F (Some (Symbol symbol.COMMA)) → (top : ℕ) → IsReader top 0 (λ p. Listed (R p)) (EndsList F) (λ p left most. listed (r p most) left)
 unfolding listed
-list_at R F r item comma zero = at_no_depth (λ p. let x = (item 0 0).some p in (x.0 ∷ [], x.1, single x.2))
+list_at R F r item comma zero = at_no_depth (λ p. let x = (item 0 0).some p in (x.0 ∷ [], x.1, single_item x.2))
 list_at R F r item comma (suc top) =
     deeper (λ p left most. listed (r p most) left)
     (convert (bind (item top 1)

@@ -103,8 +103,8 @@ assigning target type known = record {
 abbrev pub Fault : Type 0
 Fault = ℕ × CheckCode
 
-abbrev pub fault_at : Known → CheckCode → Fault
-fault_at known code = (known.before + 1, code)
+abbrev pub fault_here : Known → CheckCode → Fault
+fault_here known code = (known.before + 1, code)
 
 abbrev pub and_then : {A B E : Type 0} → Result A E → (A → Result B E) → Result B E
 and_then (Ok value) next = next value
@@ -113,13 +113,13 @@ and_then (Err fault) next = Err fault
 -- the same, where a code is the fault of the statement after what is known
 abbrev pub fault_or : {A : Type 0} → Known → Result A CheckCode → Result A Fault
 fault_or known (Ok value) = Ok value
-fault_or known (Err code) = Err (fault_at known code)
+fault_or known (Err code) = Err (fault_here known code)
 
 -- what is known after an assignment, a write, and a condition, or the fault
 abbrev pub assigned_by : ℕ → OpSpec → List ℕ → Known → Result Known Fault
 assigned_by target operator args known =
     and_then (fault_or known (judged known operator args)) (λ type.
-    if is_kept (first_type known target) type then Ok (assigning target type known) else Err (fault_at known WrongType))
+    if is_kept (first_type known target) type then Ok (assigning target type known) else Err (fault_here known WrongType))
 
 abbrev pub written_by : OpSpec → List ℕ → Known → Result Known Fault
 written_by operator args known = and_then (fault_or known (judged known operator args)) (λ type. Ok (passed known))
@@ -127,7 +127,7 @@ written_by operator args known = and_then (fault_or known (judged known operator
 abbrev pub decided_by : OpSpec → List ℕ → Known → Result Known Fault
 decided_by operator args known =
     and_then (fault_or known (judged known operator args)) (λ type.
-    if is_condition type then Ok (passed known) else Err (fault_at known WrongType))
+    if is_condition type then Ok (passed known) else Err (fault_here known WrongType))
 
 -- a check goes from what is known before to what is known after, or to the first fault
 abbrev pub Check : Type 0

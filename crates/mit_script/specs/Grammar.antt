@@ -55,7 +55,7 @@ number_in names word = unwrap_or (position (λ name. bytes_eq name word) names) 
 
 -- one or more, with commas between
 pub data Listed {A : Type 0} (Item : A → Kinds → Type 0) : List A → Kinds → Type 0 where
-  single : {item : A} {tokens : Kinds} → Item item tokens → Listed Item (item ∷ []) tokens
+  single_item : {item : A} {tokens : Kinds} → Item item tokens → Listed Item (item ∷ []) tokens
   and_more : {item : A} {items : List A} {tokens others : Kinds} → Item item tokens → Listed Item items others
       → Listed Item (item ∷ items) (tokens ++ Symbol symbol.COMMA ∷ others)
 
@@ -139,7 +139,7 @@ pub data SpellsExpr (number : List ℕ → ℕ) : ℕ → Expr → Kinds → Typ
   truth_literal : (holds : Bool) → SpellsExpr number 7 (expr.Lit (value.Bool holds)) (truth_token holds ∷ [])
   column_place : (place : ℕ) → SpellsExpr number 7 (expr.Column place) (Column place ∷ [])
   captured_name : (name : List ℕ) → SpellsExpr number 7 (expr.Capture (number name)) (Name name ∷ [])
-  called : {e : Expr} {tokens : Kinds} → (function : Call) → SpellsExpr number 0 e tokens
+  function_call : {e : Expr} {tokens : Kinds} → (function : Call) → SpellsExpr number 0 e tokens
       → SpellsExpr number 7 (expr.Call function e)
       (call_token function ∷ Symbol symbol.LEFT_PAREN ∷ tokens ++ Symbol symbol.RIGHT_PAREN ∷ [])
   enclosed : {e : Expr} {tokens : Kinds} → SpellsExpr number 0 e tokens

@@ -72,10 +72,10 @@ abbrev pub type_by : Option ColType → Kinds → Kinds → Reading ColType
 type_by None all rest = Err all
 type_by (Some type) all rest = Ok (type, rest)
 
-unfoldable pub type_at : Kinds → Reading ColType
-type_at [] = Err []
-type_at (Keyword place ∷ rest) = type_by (type_of_word place) (Keyword place ∷ rest) rest
-type_at (token ∷ rest) = Err (token ∷ rest)
+unfoldable pub type_word_at : Kinds → Reading ColType
+type_word_at [] = Err []
+type_word_at (Keyword place ∷ rest) = type_by (type_of_word place) (Keyword place ∷ rest) rest
+type_word_at (token ∷ rest) = Err (token ∷ rest)
 
 -- the next token is this symbol, and this keyword
 unfoldable pub sees_symbol : ℕ → Kinds → Bool
@@ -246,7 +246,7 @@ exprs_at number most tokens =
 
 unfoldable pub types_at : ℕ → Kinds → Reading (List ColType)
 types_at most tokens =
-    expect_symbol symbol.LEFT_PAREN tokens >>= λ opened. listed type_at most opened.1 >>= λ types.
+    expect_symbol symbol.LEFT_PAREN tokens >>= λ opened. listed type_word_at most opened.1 >>= λ types.
     expect_symbol symbol.RIGHT_PAREN types.1 >>= λ end. Ok (types.0, end.1)
 
 abbrev pub columns_at : ℕ → Kinds → Reading (List ℕ)
@@ -317,8 +317,8 @@ of_bag_at op tokens = name_at tokens >>= λ bag. Ok (op, bag.1)
 unfoldable pub sum_at : Kinds → Reading OpSpec
 sum_at tokens = name_at tokens >>= λ bag. column_at bag.1 >>= λ column. Ok (kind.Sum column.0, column.1)
 
-unfoldable pub row_at : (List ℕ → ℕ) → ℕ → Kinds → Reading OpSpec
-row_at number most tokens = exprs_at number most tokens >>= λ exprs. Ok (kind.MakeRow exprs.0, exprs.1)
+unfoldable pub row_form_at : (List ℕ → ℕ) → ℕ → Kinds → Reading OpSpec
+row_form_at number most tokens = exprs_at number most tokens >>= λ exprs. Ok (kind.MakeRow exprs.0, exprs.1)
 
 unfoldable pub empty_at : ℕ → Kinds → Reading OpSpec
 empty_at most tokens = types_at most tokens >>= λ types. Ok (kind.Empty types.0, types.1)
@@ -337,15 +337,15 @@ right_by number most place all rest =
     else (if place == word.JOIN then join_at most rest else (if place == word.REDUCE then reduce_at most rest
     else (if place == word.UNION then union_at rest else (if place == word.DISTINCT then of_bag_at kind.Distinct rest
     else (if place == word.ONLY then of_bag_at kind.Only rest else (if place == word.COUNT then of_bag_at kind.Count rest
-    else (if place == word.SUM then sum_at rest else (if place == word.ROW then row_at number most rest
+    else (if place == word.SUM then sum_at rest else (if place == word.ROW then row_form_at number most rest
     else (if place == word.EMPTY then empty_at most rest else scalar_at number most all))))))))))))
 
 unfoldable pub right_at : (List ℕ → ℕ) → ℕ → Kinds → Reading OpSpec
 right_at number most (Keyword place ∷ rest) = right_by number most place (Keyword place ∷ rest) rest
 right_at number most tokens = scalar_at number most tokens
 
-unfoldable pub write_at : (List ℕ → ℕ) → ℕ → Kinds → Reading OpSpec
-write_at number most tokens =
+unfoldable pub write_form_at : (List ℕ → ℕ) → ℕ → Kinds → Reading OpSpec
+write_form_at number most tokens =
     expect_word word.WRITE tokens >>= λ write. name_at write.1 >>= λ bag. expect_word word.TO bag.1 >>= λ to. any_expression number most to.1 >>= λ name.
     Ok (kind.Write name.0, name.1)
 
@@ -369,33 +369,33 @@ assignment names most tokens =
     name_at tokens >>= λ target. expect_symbol symbol.EQUALS target.1 >>= λ equals. operation right_at symbol.SEMICOLON names most equals.1 >>= λ made.
     Ok (stmt.Assign (number_in names target.0) made.0.0 made.0.1, made.1)
 
-unfoldable pub write : List (List ℕ) → ℕ → Kinds → Reading Stmt
-write names most tokens = operation write_at symbol.SEMICOLON names most tokens >>= λ made. Ok (stmt.Write made.0.0 made.0.1, made.1)
+unfoldable pub write_statement : List (List ℕ) → ℕ → Kinds → Reading Stmt
+write_statement names most tokens = operation write_form_at symbol.SEMICOLON names most tokens >>= λ made. Ok (stmt.Write made.0.0 made.0.1, made.1)
 
 -- the rest of a block, after its `{`
-unfoldable pub block_at : (Kinds → Reading (List Stmt)) → Kinds → Reading (List Stmt)
-block_at inner tokens = inner tokens >>= λ body. expect_symbol symbol.RIGHT_BRACE body.1 >>= λ end. Ok (body.0, end.1)
+unfoldable pub rest_of_block : (Kinds → Reading (List Stmt)) → Kinds → Reading (List Stmt)
+rest_of_block inner tokens = inner tokens >>= λ body. expect_symbol symbol.RIGHT_BRACE body.1 >>= λ end. Ok (body.0, end.1)
 
 unfoldable pub else_at : (Kinds → Reading (List Stmt)) → Kinds → Reading (List Stmt)
 else_at inner tokens =
-    if sees_word word.ELSE tokens then (expect_symbol symbol.LEFT_BRACE (after_next tokens) >>= λ opened. block_at inner opened.1) else Ok ([], tokens)
+    if sees_word word.ELSE tokens then (expect_symbol symbol.LEFT_BRACE (after_next tokens) >>= λ opened. rest_of_block inner opened.1) else Ok ([], tokens)
 
 -- after the words `if` and `while`
-unfoldable pub branch : (Kinds → Reading (List Stmt)) → List (List ℕ) → ℕ → Kinds → Reading Stmt
-branch inner names most tokens =
-    operation condition_at symbol.LEFT_BRACE names most tokens >>= λ made. block_at inner made.1 >>= λ yes. else_at inner yes.1 >>= λ no.
+unfoldable pub if_statement : (Kinds → Reading (List Stmt)) → List (List ℕ) → ℕ → Kinds → Reading Stmt
+if_statement inner names most tokens =
+    operation condition_at symbol.LEFT_BRACE names most tokens >>= λ made. rest_of_block inner made.1 >>= λ yes. else_at inner yes.1 >>= λ no.
     Ok (stmt.If made.0.0 made.0.1 yes.0 no.0, no.1)
 
-unfoldable pub loop : (Kinds → Reading (List Stmt)) → List (List ℕ) → ℕ → Kinds → Reading Stmt
-loop inner names most tokens =
-    operation condition_at symbol.LEFT_BRACE names most tokens >>= λ made. block_at inner made.1 >>= λ body.
+unfoldable pub while_statement : (Kinds → Reading (List Stmt)) → List (List ℕ) → ℕ → Kinds → Reading Stmt
+while_statement inner names most tokens =
+    operation condition_at symbol.LEFT_BRACE names most tokens >>= λ made. rest_of_block inner made.1 >>= λ body.
     Ok (stmt.While made.0.0 made.0.1 body.0, body.1)
 
 unfoldable pub statement : (Kinds → Reading (List Stmt)) → List (List ℕ) → ℕ → Kinds → Reading Stmt
 statement inner names most tokens =
-    if sees_word word.WRITE tokens then write names most tokens
-    else (if sees_word word.IF tokens then branch inner names most (after_next tokens)
-    else (if sees_word word.WHILE tokens then loop inner names most (after_next tokens) else assignment names most tokens))
+    if sees_word word.WRITE tokens then write_statement names most tokens
+    else (if sees_word word.IF tokens then if_statement inner names most (after_next tokens)
+    else (if sees_word word.WHILE tokens then while_statement inner names most (after_next tokens) else assignment names most tokens))
 
 -- the next token begins a statement
 unfoldable pub begins_statement : Kinds → Bool
@@ -418,9 +418,9 @@ abbrev pub to_the_end : List Stmt → Kinds → Result (List Stmt) Kinds
 to_the_end body [] = Ok body
 to_the_end body (token ∷ rest) = Err (token ∷ rest)
 
-abbrev pub ended : Reading (List Stmt) → Result (List Stmt) Kinds
-ended (Ok read) = to_the_end read.0 read.1
-ended (Err rest) = Err rest
+abbrev pub ended_reading : Reading (List Stmt) → Result (List Stmt) Kinds
+ended_reading (Ok read) = to_the_end read.0 read.1
+ended_reading (Err rest) = Err rest
 
 abbrev pub with_names : List (List ℕ) → Result (List Stmt) Kinds → Result Script Kinds
 with_names names (Ok body) = Ok (record { body = body; names = names })
@@ -430,4 +430,4 @@ with_names names (Err rest) = Err rest
 unfoldable pub read_script : Kinds → Result Script Kinds
 read_script tokens =
     let names = each_once (names_in tokens) in
-    with_names names (ended (statements names (length tokens + 1) (length tokens + 1) tokens))
+    with_names names (ended_reading (statements names (length tokens + 1) (length tokens + 1) tokens))

@@ -15,7 +15,7 @@ use Rattle.mit_script.specs.declared.tree.Stmt.TheOpen.{Stmt-F}
 use Rattle.mit_script.specs.declared.tree.Stmt.TheOpen as layer
 use Rattle.mit_script.specs.declared.tree.Stmt.TheVariants as stmt
 use Rattle.mit_ssa.specs.PlanFor.{operators_of}
-use Rattle.mit_ssa.specs.Woven.{Defined, Place, Stretch, Weave, adds, after, all_of, branched, counts, done, join_phis, left, loop_phis, looped, operator_of, phi_of, phis_of, preceded, weave_of, weave_step, with_phis, woven_all}
+use Rattle.mit_ssa.specs.Woven.{Defined, Weave, WeavePlace, WovenStretch, done, join_phis, just_left, loop_phis, operator_of, operators_first, phi_of, phis_of, place_after, stretch_blocks, weave_adds, weave_counts, weave_of, weave_step, with_phis, woven_all, woven_branch, woven_loop}
 use Rattle.mit_ssa.specs.declared.block.Block.{Block}
 use Rattle.mit_ssa.specs.declared.block.Operator.{Operator}
 
@@ -36,13 +36,13 @@ pub size_append : (xs ys : List Block) → size (xs ++ ys) ≡ size xs + size ys
 unfolding size
 size_append xs ys = ap length (flat_map-append (λ (block : Block). block.operators) xs ys) ∙ length-append (operators_of xs) (operators_of ys)
 
-pub size_none : (leave : Leave) → size (all_of (left leave)) ≡ 0
+pub size_none : (leave : Leave) → size (stretch_blocks (just_left leave)) ≡ 0
 unfolding size
 size_none leave = refl
 
-size_preceded : (operators : List Operator) (stretch : Stretch) → size (all_of (preceded operators stretch)) ≡ length operators + size (all_of stretch)
+size_preceded : (operators : List Operator) (stretch : WovenStretch) → size (stretch_blocks (operators_first operators stretch)) ≡ length operators + size (stretch_blocks stretch)
 size_preceded operators stretch =
-    let a = size_more (preceded operators stretch).first stretch.later in
+    let a = size_more (operators_first operators stretch).first stretch.later in
     let b = size_more stretch.first stretch.later in
     let c = length-append operators stretch.first.operators in
     omega (arith, a, b, c)
@@ -54,18 +54,18 @@ pub record Counted (weave : Weave) (count : ℕ) : Type 0 where
   pub few : weave.added ≤ 3 * weave.count
   pub same : weave.count ≡ count
   -- at least one operator for each statement
-  pub grows : (place : Place) → place.operator + weave.count ≤ (weave.weave place).operator
-  pub size : (place : Place) (stretch : Stretch)
-      → place.operator + size (all_of ((weave.weave place).onto stretch)) ≡ (weave.weave place).operator + size (all_of stretch)
-  pub blocks : (place : Place) (stretch : Stretch) → length (((weave.weave place).onto stretch).later) ≡ weave.added + length stretch.later
+  pub grows : (place : WeavePlace) → place.operator + weave.count ≤ (weave.weave place).operator
+  pub size : (place : WeavePlace) (stretch : WovenStretch)
+      → place.operator + size (stretch_blocks ((weave.weave place).onto stretch)) ≡ (weave.weave place).operator + size (stretch_blocks stretch)
+  pub blocks : (place : WeavePlace) (stretch : WovenStretch) → length (((weave.weave place).onto stretch).later) ≡ weave.added + length stretch.later
 
 pub record AreCounted (weaves : List Weave) (count : ℕ) : Type 0 where
-  pub few : adds weaves ≤ 3 * counts weaves
-  pub same : counts weaves ≡ count
-  pub grows : (place : Place) → place.operator + counts weaves ≤ (woven_all weaves place).operator
-  pub size : (place : Place) (stretch : Stretch)
-      → place.operator + size (all_of ((woven_all weaves place).onto stretch)) ≡ (woven_all weaves place).operator + size (all_of stretch)
-  pub blocks : (place : Place) (stretch : Stretch) → length (((woven_all weaves place).onto stretch).later) ≡ adds weaves + length stretch.later
+  pub few : weave_adds weaves ≤ 3 * weave_counts weaves
+  pub same : weave_counts weaves ≡ count
+  pub grows : (place : WeavePlace) → place.operator + weave_counts weaves ≤ (woven_all weaves place).operator
+  pub size : (place : WeavePlace) (stretch : WovenStretch)
+      → place.operator + size (stretch_blocks ((woven_all weaves place).onto stretch)) ≡ (woven_all weaves place).operator + size (stretch_blocks stretch)
+  pub blocks : (place : WeavePlace) (stretch : WovenStretch) → length (((woven_all weaves place).onto stretch).later) ≡ weave_adds weaves + length stretch.later
 
 pub sum-map-cons : {A : Type 0} (f : A → ℕ) (x : A) (xs : List A) → sum (map f (x ∷ xs)) ≡ f x + sum (map f xs)
 sum-map-cons f x xs = sum_by-cons (λ (n : ℕ). n) (f x) (map f xs)
@@ -92,14 +92,14 @@ more_counted weave weaves count others first later =
       few = omega (arith, a, b, d, f);
       same = omega (arith, b, c, e, g);
       grows = λ place.
-          let h = first.grows place in let i = later.grows (after place weave (weave.weave place)) in
+          let h = first.grows place in let i = later.grows (place_after place weave (weave.weave place)) in
           omega (arith, b, h, i);
       size = λ place stretch.
-          let next = after place weave (weave.weave place) in
+          let next = place_after place weave (weave.weave place) in
           let h = first.size place ((woven_all weaves next).onto stretch) in let i = later.size next stretch in
           omega (arith, h, i);
       blocks = λ place stretch.
-          let next = after place weave (weave.weave place) in
+          let next = place_after place weave (weave.weave place) in
           let h = first.blocks place ((woven_all weaves next).onto stretch) in let i = later.blocks next stretch in
           omega (arith, a, h, i);
     }
@@ -120,17 +120,17 @@ length-phis : (one other : Defined) (phis : List ℕ) → length (phis_of one ot
 length-phis one other phis = length-map phis (phi_of one other)
 
 -- a part of blocks that is left by a jump
-part_size : (weaves : List Weave) (count : ℕ) (place : Place) (to : ℕ) → AreCounted weaves count
-    → place.operator + size (all_of ((woven_all weaves place).onto (left (Jump to)))) ≡ (woven_all weaves place).operator
+part_size : (weaves : List Weave) (count : ℕ) (place : WeavePlace) (to : ℕ) → AreCounted weaves count
+    → place.operator + size (stretch_blocks ((woven_all weaves place).onto (just_left (Jump to)))) ≡ (woven_all weaves place).operator
 part_size weaves count place to counted =
-    let a = counted.size place (left (Jump to)) in let b = size_none (Jump to) in omega (arith, a, b)
+    let a = counted.size place (just_left (Jump to)) in let b = size_none (Jump to) in omega (arith, a, b)
 
-part_blocks : (weaves : List Weave) (count : ℕ) (place : Place) (to : ℕ) → AreCounted weaves count
-    → length (all_of ((woven_all weaves place).onto (left (Jump to)))) ≡ adds weaves + 1
-part_blocks weaves count place to counted = let a = counted.blocks place (left (Jump to)) in omega (arith, a)
+part_blocks : (weaves : List Weave) (count : ℕ) (place : WeavePlace) (to : ℕ) → AreCounted weaves count
+    → length (stretch_blocks ((woven_all weaves place).onto (just_left (Jump to)))) ≡ weave_adds weaves + 1
+part_blocks weaves count place to counted = let a = counted.blocks place (just_left (Jump to)) in omega (arith, a)
 
 -- what stands after a condition
-abbrev after_condition : List VarType → OpSpec → List ℕ → Place → Leave → Block
+abbrev after_condition : List VarType → OpSpec → List ℕ → WeavePlace → Leave → Block
 after_condition types operator args place leave =
     record { operators = operator_of types place.defined place.statement operator args ∷ []; leave = leave }
 
@@ -142,10 +142,10 @@ three_size block xs ys zs =
 if_counted : (types : List VarType) (operator : OpSpec) (args : List ℕ) (on_true on_false : List Weave) (count_yes count_no : ℕ) (assigns : ℕ → Bool)
     → AreCounted on_true count_yes → AreCounted on_false count_no
     → Counted (record {
-      count = 1 + counts on_true + counts on_false;
-      added = 3 + adds on_true + adds on_false;
+      count = 1 + weave_counts on_true + weave_counts on_false;
+      added = 3 + weave_adds on_true + weave_adds on_false;
       assigns = assigns;
-      weave = branched types operator args on_true on_false;
+      weave = woven_branch types operator args on_true on_false;
     }) (1 + count_yes + count_no)
 if_counted types operator args on_true on_false count_yes count_no assigns first second =
     let a = first.few in let b = first.same in let c = second.few in let d = second.same in
@@ -164,8 +164,8 @@ if_counted types operator args on_true on_false count_yes count_no assigns first
           let f = part_size on_false count_no beside join second in
           let g = length-phis one.defined two.defined phis in
           let h = size_preceded (phis_of one.defined two.defined phis) stretch in
-          let i = three_size (after_condition types operator args place (Branch (place.block + 1) (place.block + 2 + adds on_true)))
-          (all_of (one.onto (left (Jump join)))) (all_of (two.onto (left (Jump join)))) (all_of (preceded (phis_of one.defined two.defined phis) stretch)) in
+          let i = three_size (after_condition types operator args place (Branch (place.block + 1) (place.block + 2 + weave_adds on_true)))
+          (stretch_blocks (one.onto (just_left (Jump join)))) (stretch_blocks (two.onto (just_left (Jump join)))) (stretch_blocks (operators_first (phis_of one.defined two.defined phis) stretch)) in
           omega (arith, e, f, g, h, i);
       blocks = λ place stretch.
           let inside = inside_of place in let beside = beside_of place in
@@ -174,28 +174,28 @@ if_counted types operator args on_true on_false count_yes count_no assigns first
           let join = join_of place in
           let e = part_blocks on_true count_yes inside join first in
           let f = part_blocks on_false count_no beside join second in
-          let xs = all_of (one.onto (left (Jump join))) in let ys = all_of (two.onto (left (Jump join))) in
-          let g = length-append (xs ++ ys) (all_of (preceded (phis_of one.defined two.defined phis) stretch)) in
+          let xs = stretch_blocks (one.onto (just_left (Jump join))) in let ys = stretch_blocks (two.onto (just_left (Jump join))) in
+          let g = length-append (xs ++ ys) (stretch_blocks (operators_first (phis_of one.defined two.defined phis) stretch)) in
           let h = length-append xs ys in
           omega (arith, e, f, g, h);
     }
   where
-    inside_of : Place → Place
+    inside_of : WeavePlace → WeavePlace
     inside_of place = record { block = place.block + 1; operator = place.operator + 1; statement = place.statement + 1; defined = place.defined }
 
-    beside_of : Place → Place
+    beside_of : WeavePlace → WeavePlace
     beside_of place = record {
-      block = place.block + 2 + adds on_true;
+      block = place.block + 2 + weave_adds on_true;
       operator = (woven_all on_true (inside_of place)).operator;
-      statement = place.statement + 1 + counts on_true;
+      statement = place.statement + 1 + weave_counts on_true;
       defined = place.defined;
     }
 
-    join_of : Place → ℕ
-    join_of place = place.block + 2 + adds on_true + 1 + adds on_false
+    join_of : WeavePlace → ℕ
+    join_of place = place.block + 2 + weave_adds on_true + 1 + weave_adds on_false
 
 while_counted : (types : List VarType) (operator : OpSpec) (args : List ℕ) (body : List Weave) (inner : ℕ) (assigns : ℕ → Bool) → AreCounted body inner
-    → Counted (record { count = 1 + counts body; added = 3 + adds body; assigns = assigns; weave = looped types operator args body }) (1 + inner)
+    → Counted (record { count = 1 + weave_counts body; added = 3 + weave_adds body; assigns = assigns; weave = woven_loop types operator args body }) (1 + inner)
 while_counted types operator args body inner assigns counted =
     let a = counted.few in let b = counted.same in
     record {
@@ -204,29 +204,29 @@ while_counted types operator args body inner assigns counted =
       grows = λ place. let e = counted.grows (turn_of place) in omega (arith, e);
       size = λ place stretch.
           let e = part_size body inner (turn_of place) (place.block + 1) counted in
-          let part = all_of ((woven_all body (turn_of place)).onto (left (Jump (place.block + 1)))) in
+          let part = stretch_blocks ((woven_all body (turn_of place)).onto (just_left (Jump (place.block + 1)))) in
           let one = (woven_all body (turn_of place)).defined in
           let phis = phis_at place in
           let header = header_of place in
-          let f = size_more (record { operators = []; leave = Jump (place.block + 1) }) (header ∷ (part ++ all_of stretch)) in
-          let g = size_more header (part ++ all_of stretch) in
-          let h = size_append part (all_of stretch) in
+          let f = size_more (record { operators = []; leave = Jump (place.block + 1) }) (header ∷ (part ++ stretch_blocks stretch)) in
+          let g = size_more header (part ++ stretch_blocks stretch) in
+          let h = size_append part (stretch_blocks stretch) in
           let i = length-phis place.defined one phis in
           let j = length-append (phis_of place.defined one phis) (operator_of types (inside_of place) place.statement operator args ∷ []) in
           omega (arith, e, f, g, h, i, j);
       blocks = λ place stretch.
           let e = part_blocks body inner (turn_of place) (place.block + 1) counted in
-          let f = length-append (all_of ((woven_all body (turn_of place)).onto (left (Jump (place.block + 1))))) (all_of stretch) in
+          let f = length-append (stretch_blocks ((woven_all body (turn_of place)).onto (just_left (Jump (place.block + 1))))) (stretch_blocks stretch) in
           omega (arith, e, f);
     }
   where
-    phis_at : Place → List ℕ
+    phis_at : WeavePlace → List ℕ
     phis_at place = loop_phis (length types) body place.defined
 
-    inside_of : Place → Defined
+    inside_of : WeavePlace → Defined
     inside_of place = with_phis place.defined place.operator (phis_at place)
 
-    turn_of : Place → Place
+    turn_of : WeavePlace → WeavePlace
     turn_of place = record {
       block = place.block + 2;
       operator = place.operator + length (phis_at place) + 1;
@@ -234,11 +234,11 @@ while_counted types operator args body inner assigns counted =
       defined = inside_of place;
     }
 
-    header_of : Place → Block
+    header_of : WeavePlace → Block
     header_of place = record {
       operators = phis_of place.defined (woven_all body (turn_of place)).defined (phis_at place)
           ++ operator_of types (inside_of place) place.statement operator args ∷ [];
-      leave = Branch (place.block + 2) (place.block + 3 + adds body);
+      leave = Branch (place.block + 2) (place.block + 3 + weave_adds body);
     }
 
 -- ---- each statement

@@ -5,7 +5,7 @@ use Rattle.std.proofs.lemmas.Bool.Decides.{nat_tests}
 use Rattle.mit_plan.specs.Plans.{PlanOf, edge_at, inputs_of, no_edge, numbers_where, op_at, source_block}
 use Rattle.mit_plan.specs.Valid.{source_blocks}
 use Rattle.mit_plan.specs.declared.plan.Edge.{Edge}
-use Rattle.mit_ssa.specs.PlanFor.{edges_from, edges_in}
+use Rattle.mit_ssa.specs.PlanFor.{edges_in, operator_edges}
 use Rattle.mit_ssa.specs.declared.block.Operator.{Operator}
 use Rattle.mit_ssa.specs.declared.block.Source.{Source}
 use Rattle.mit_ssa.proofs.DefinitionsPhis.{Each}
@@ -71,27 +71,27 @@ unfolding edges_in leads_to
 edges_in_other op number input [] other = refl
 edges_in_other op number input (source ∷ sources) other = rw other (edges_in_other op number (suc input) sources other)
 
-edges_from_later : (op number : ℕ) (operators : List Operator) → op < number → filter (leads_to op) (edges_from number operators) ≡ []
-unfolding edges_from
+edges_from_later : (op number : ℕ) (operators : List Operator) → op < number → filter (leads_to op) (operator_edges number operators) ≡ []
+unfolding operator_edges
 edges_from_later op number [] below = refl
 edges_from_later op number (operator ∷ operators) below =
     let other : eqb number op ≡ false = grind (arith, nat_tests) in
-    filter_append (leads_to op) (edges_in number 0 operator.inputs) (edges_from (suc number) operators)
-    ∙ (ap (λ l. l ++ filter (leads_to op) (edges_from (suc number) operators)) (edges_in_other op number 0 operator.inputs other)
+    filter_append (leads_to op) (edges_in number 0 operator.inputs) (operator_edges (suc number) operators)
+    ∙ (ap (λ l. l ++ filter (leads_to op) (operator_edges (suc number) operators)) (edges_in_other op number 0 operator.inputs other)
     ∙ edges_from_later op (suc number) operators (omega arith))
 
 edges_from_at : (op number k : ℕ) (operators : List Operator) → number + k ≡ op → k < length operators
-    → filter (leads_to op) (edges_from number operators) ≡ edges_in op 0 (get_or operators k no_operator).inputs
-unfolding edges_from
+    → filter (leads_to op) (operator_edges number operators) ≡ edges_in op 0 (get_or operators k no_operator).inputs
+unfolding operator_edges
 edges_from_at op number k [] same below = absurd (omega arith)
 edges_from_at op number zero (operator ∷ operators) same below =
-    filter_append (leads_to op) (edges_in number 0 operator.inputs) (edges_from (suc number) operators)
+    filter_append (leads_to op) (edges_in number 0 operator.inputs) (operator_edges (suc number) operators)
     ∙ ((λ i. edges_in_same op number 0 operator.inputs (omega (arith, same)) i ++ edges_from_later op (suc number) operators (omega (arith, same)) i)
     ∙ append-nil (edges_in op 0 operator.inputs))
 edges_from_at op number (suc k) (operator ∷ operators) same below =
     let other : eqb number op ≡ false = grind (arith, nat_tests) in
-    filter_append (leads_to op) (edges_in number 0 operator.inputs) (edges_from (suc number) operators)
-    ∙ (ap (λ l. l ++ filter (leads_to op) (edges_from (suc number) operators)) (edges_in_other op number 0 operator.inputs other)
+    filter_append (leads_to op) (edges_in number 0 operator.inputs) (operator_edges (suc number) operators)
+    ∙ (ap (λ l. l ++ filter (leads_to op) (operator_edges (suc number) operators)) (edges_in_other op number 0 operator.inputs other)
     ∙ edges_from_at op (suc number) k operators (omega (arith, same)) (omega arith))
 
 blocks_in : (plan : PlanOf) (op input : ℕ) (sources : List Source)
@@ -101,14 +101,14 @@ blocks_in plan op input [] = refl
 blocks_in plan op input (source ∷ sources) = ap (λ l. (op_at plan source.from).block ∷ l) (blocks_in plan op (suc input) sources)
 
 -- the edges to an operator are those of its inputs
-pub inputs_are : (plan : PlanOf) (operators : List Operator) (op : ℕ) → plan.edges ≡ edges_from 0 operators → op < length operators
+pub inputs_are : (plan : PlanOf) (operators : List Operator) (op : ℕ) → plan.edges ≡ operator_edges 0 operators → op < length operators
     → inputs_of plan op ≡ edges_in op 0 (get_or operators op no_operator).inputs
 unfolding leads_to
 inputs_are plan operators op edges below =
     map_numbers (edge_at plan) (leads_to op) 0 plan.edges (λ k lt. let e : 0 + k ≡ k = omega arith in ap (edge_at plan) e)
     ∙ (ap (filter (leads_to op)) edges ∙ edges_from_at op 0 op operators (omega arith) below)
 
-pub source_blocks_are : (plan : PlanOf) (operators : List Operator) (op : ℕ) → plan.edges ≡ edges_from 0 operators → op < length operators
+pub source_blocks_are : (plan : PlanOf) (operators : List Operator) (op : ℕ) → plan.edges ≡ operator_edges 0 operators → op < length operators
     → source_blocks plan op ≡ map (λ source. (op_at plan source.from).block) (get_or operators op no_operator).inputs
 source_blocks_are plan operators op edges below =
     ap (map (source_block plan)) (inputs_are plan operators op edges below) ∙ blocks_in plan op 0 (get_or operators op no_operator).inputs
@@ -116,11 +116,11 @@ source_blocks_are plan operators op edges below =
 -- ---- each edge
 
 pub each_edge : (P : Edge → Type 0) (number : ℕ) (operators : List Operator)
-    → ((k : ℕ) → k < length operators → Each P (edges_in (number + k) 0 (get_or operators k no_operator).inputs)) → Each P (edges_from number operators)
-unfolding edges_from Each
+    → ((k : ℕ) → k < length operators → Each P (edges_in (number + k) 0 (get_or operators k no_operator).inputs)) → Each P (operator_edges number operators)
+unfolding operator_edges Each
 each_edge P number [] each = tt
 each_edge P number (operator ∷ operators) each =
-    each_append P (edges_in number 0 operator.inputs) (edges_from (suc number) operators)
+    each_append P (edges_in number 0 operator.inputs) (operator_edges (suc number) operators)
     (let e : number + 0 ≡ number = omega arith in subst (λ (n : ℕ). Each P (edges_in n 0 operator.inputs)) e (each 0 (omega arith)))
     (each_edge P (suc number) operators (λ k below.
     let e : number + suc k ≡ suc number + k = omega arith in

@@ -7,7 +7,7 @@ use Rattle.mit_ops.specs.declared.leave.Leave.TheVariants.{Jump}
 use Rattle.mit_ops.specs.declared.types.VarType.{VarType}
 use Rattle.mit_plan.specs.Paths.{next_of}
 use Rattle.mit_script.specs.Accepted.{Known, is_assigned}
-use Rattle.mit_ssa.specs.Woven.{Defined, Stretch, all_of, definition_of, inputs_from, left, operator_of, phi_of, phis_of, preceded, with_phis}
+use Rattle.mit_ssa.specs.Woven.{Defined, WovenStretch, definition_of, inputs_from, just_left, operator_of, operators_first, phi_of, phis_of, stretch_blocks, with_phis}
 use Rattle.mit_ssa.specs.declared.block.Block.{Block}
 use Rattle.mit_ssa.specs.declared.block.Operator.{Operator}
 use Rattle.mit_ssa.proofs.DefinitionsPhis.{Each, among, one_some, phi_is, phis_keep}
@@ -99,7 +99,7 @@ GoodBlocks variables look block number [] last end = (block ≡ last) × (number
 GoodBlocks variables look block number (it ∷ more) last end =
     ((look block).start ≡ number) × GoodThen variables look block number it (λ next. GoodBlocks variables look (block + 1) next more last end)
 
-abbrev pub GoodStretch : ℕ → Marks → ℕ → ℕ → Stretch → ℕ → ℕ → Type 0
+abbrev pub GoodStretch : ℕ → Marks → ℕ → ℕ → WovenStretch → ℕ → ℕ → Type 0
 GoodStretch variables look block number stretch last end =
     GoodThen variables look block number stretch.first (λ next. GoodBlocks variables look (block + 1) next stretch.later last end)
 
@@ -121,34 +121,34 @@ blocks_append variables look block number (it ∷ xs) ys middle at last end firs
   },
 )
 
-pub begins : (variables : ℕ) (look : Marks) (block number : ℕ) (stretch : Stretch) (last end : ℕ) → (look block).start ≡ number
-    → GoodStretch variables look block number stretch last end → GoodBlocks variables look block number (all_of stretch) last end
+pub begins : (variables : ℕ) (look : Marks) (block number : ℕ) (stretch : WovenStretch) (last end : ℕ) → (look block).start ≡ number
+    → GoodStretch variables look block number stretch last end → GoodBlocks variables look block number (stretch_blocks stretch) last end
 unfolding GoodBlocks
 begins variables look block number stretch last end start good = (start, good)
 
-pub precede : (variables : ℕ) (look : Marks) (block number : ℕ) (operator : Operator) (stretch : Stretch) (last end : ℕ)
+pub precede : (variables : ℕ) (look : Marks) (block number : ℕ) (operator : Operator) (stretch : WovenStretch) (last end : ℕ)
     → GoodOp variables look block number operator → GoodStretch variables look block (number + 1) stretch last end
-    → GoodStretch variables look block number (preceded (operator ∷ []) stretch) last end
+    → GoodStretch variables look block number (operators_first (operator ∷ []) stretch) last end
 unfolding GoodOps
 precede variables look block number operator stretch last end good later =
     record { next = later.next; good = record { ops = (good, later.good.ops); leads = later.good.leads }; rest = later.rest }
 
-pub phis_precede : (variables : ℕ) (look : Marks) (block number : ℕ) (one other : Defined) (phis : List ℕ) (stretch : Stretch) (last end : ℕ)
+pub phis_precede : (variables : ℕ) (look : Marks) (block number : ℕ) (one other : Defined) (phis : List ℕ) (stretch : WovenStretch) (last end : ℕ)
     → Each (λ variable. GoodPhi variables look block (phi_of one other variable)) phis
     → GoodStretch variables look block (number + length phis) stretch last end
-    → GoodStretch variables look block number (preceded (phis_of one other phis) stretch) last end
+    → GoodStretch variables look block number (operators_first (phis_of one other phis) stretch) last end
 unfolding Each
 phis_precede variables look block number one other [] stretch last end good later =
     let e : number + 0 ≡ number = omega arith in subst (λ (n : ℕ). GoodStretch variables look block n stretch last end) e later
 phis_precede variables look block number one other (phi ∷ phis) stretch last end good later =
     let e : number + length (phi ∷ phis) ≡ number + 1 + length phis = omega arith in
-    precede variables look block number (phi_of one other phi) (preceded (phis_of one other phis) stretch) last end (inr (refl, good.0))
+    precede variables look block number (phi_of one other phi) (operators_first (phis_of one other phis) stretch) last end (inr (refl, good.0))
     (phis_precede variables look block (number + 1) one other phis stretch last end good.1
     (subst (λ (n : ℕ). GoodStretch variables look block n stretch last end) e later))
 
 -- no more operators, and a jump
 pub leaves_for : (variables : ℕ) (look : Marks) (block number target last : ℕ) → block + 1 ≡ last → Leads variables look block number target
-    → GoodStretch variables look block number (left (Jump target)) last number
+    → GoodStretch variables look block number (just_left (Jump target)) last number
 unfolding GoodOps GoodBlocks Each
 leaves_for variables look block number target last next leads =
     record { next = number; good = record { ops = refl; leads = (leads, tt) }; rest = (next, refl) }

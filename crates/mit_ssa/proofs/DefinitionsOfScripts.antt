@@ -7,10 +7,10 @@ use Rattle.mit_plan.specs.Plans.{no_block, no_op}
 use Rattle.mit_plan.specs.declared.plan.PlanBlock.{PlanBlock}
 use Rattle.mit_plan.specs.declared.plan.PlanOp.{PlanOp}
 use Rattle.mit_plan.specs.Valid.{EdgesGoUp, OperandsApart, PlacesToChoose}
-use Rattle.mit_script.specs.Accepted.{Fault, Known, and_then, at_start as known_at_start, check_of, checked, in_order, is_assigned, type_or_unset}
+use Rattle.mit_script.specs.Accepted.{Fault, Known, and_then, at_start, check_of, checked, in_order, is_assigned, type_or_unset}
 use Rattle.mit_script.specs.declared.tree.Script.{Script}
 use Rattle.mit_ssa.specs.PlanFor.{blocks_from, operators_of, ops_from, plan_for, plan_of_blocks}
-use Rattle.mit_ssa.specs.Woven.{Weave, adds, all_of, at_start, left, weave_of, woven_all, woven_blocks}
+use Rattle.mit_ssa.specs.Woven.{Weave, just_left, start_place, stretch_blocks, weave_adds, weave_of, woven_all, woven_blocks}
 use Rattle.mit_ssa.specs.declared.block.Block.{Block}
 use Rattle.mit_ssa.specs.declared.block.Operator.{Operator}
 use Rattle.mit_ssa.proofs.DefinitionsPhis.{Each}
@@ -44,7 +44,7 @@ none_assigned [] variable = refl
 none_assigned (name ∷ names) zero = refl
 none_assigned (name ∷ names) (suc variable) = none_assigned names variable
 
-pub start_ready : (names : List (List ℕ)) (variables : ℕ) → length names ≡ variables → Ready variables (known_at_start names) (λ variable. None)
+pub start_ready : (names : List (List ℕ)) (variables : ℕ) → length names ≡ variables → Ready variables (at_start names) (λ variable. None)
 start_ready names variables many = record {
   many = map_length (λ name. false) names ∙ many;
   each = λ variable is. absurd (no_both (is_assigned (map (λ _. false) names) variable) (none_assigned names variable) is);
@@ -86,17 +86,17 @@ pub record HasMarks (variables : ℕ) (blocks : List Block) : Type 0 where
   pub many : length (first_mark ∷ marks) ≡ last
   pub good : GoodBlocks variables (look_of marks) 0 0 blocks last end
 
-woven_marks : (variables : ℕ) (weaves : List Weave) → Good variables at_start (adds weaves) (woven_all weaves at_start)
-    → HasMarks variables (all_of ((woven_all weaves at_start).onto (left End)))
+woven_marks : (variables : ℕ) (weaves : List Weave) → Good variables start_place (weave_adds weaves) (woven_all weaves start_place)
+    → HasMarks variables (stretch_blocks ((woven_all weaves start_place).onto (just_left End)))
 unfolding GoodBlocks GoodOps Each
 woven_marks variables weaves good = record {
   marks = good.marks;
-  last = 0 + adds weaves + 1;
-  end = (woven_all weaves at_start).operator;
+  last = 0 + weave_adds weaves + 1;
+  end = (woven_all weaves start_place).operator;
   many = (let e = good.many in omega (arith, e));
-  good = begins variables look 0 0 ((woven_all weaves at_start).onto (left End)) (0 + adds weaves + 1) (woven_all weaves at_start).operator refl
-      (good.carries look (placed_all look 1 good.marks (λ k below. look_at good.marks k)) (left End) (0 + adds weaves + 1) (woven_all weaves at_start).operator
-      (λ at. record { next = (woven_all weaves at_start).operator; good = record { ops = refl; leads = tt }; rest = (refl, refl) })
+  good = begins variables look 0 0 ((woven_all weaves start_place).onto (just_left End)) (0 + weave_adds weaves + 1) (woven_all weaves start_place).operator refl
+      (good.carries look (placed_all look 1 good.marks (λ k below. look_at good.marks k)) (just_left End) (0 + weave_adds weaves + 1) (woven_all weaves start_place).operator
+      (λ at. record { next = (woven_all weaves start_place).operator; good = record { ops = refl; leads = tt }; rest = (refl, refl) })
       (record { start = omega arith; has = λ variable operator below none. absurd cc }));
 }
   where
@@ -105,16 +105,16 @@ woven_marks variables weaves good = record {
 
 marks_of : (script : Script) (types : List VarType) → checked script ≡ Ok types → HasMarks (length types) (woven_blocks script types)
 marks_of script types accepted =
-    let ended = ends_with script.names (in_order (map check_of script.body) (known_at_start script.names)) types accepted in
+    let ended = ends_with script.names (in_order (map check_of script.body) (at_start script.names)) types accepted in
     let flows = block_flows types script.body in
-    let a = flows.sizes (known_at_start script.names) ended.last ended.is in
+    let a = flows.sizes (at_start script.names) ended.last ended.is in
     let b = map_length type_or_unset ended.last.types in
     let c = ap (λ (ts : List VarType). length ts) ended.types_are in
     let d = start_size script.names in
     woven_marks (length types) (map (weave_of types) script.body)
-    (flows.good at_start (known_at_start script.names) ended.last ended.is (start_ready script.names (length types) (omega (arith, a, b, c, d))))
+    (flows.good start_place (at_start script.names) ended.last ended.is (start_ready script.names (length types) (omega (arith, a, b, c, d))))
   where
-    start_size : (names : List (List ℕ)) → length (known_at_start names).types ≡ length names
+    start_size : (names : List (List ℕ)) → length (at_start names).types ≡ length names
     start_size names = map_length (λ name. None) names
 
 -- ---- its plan

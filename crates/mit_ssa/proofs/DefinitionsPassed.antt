@@ -2,14 +2,14 @@
 use Rattle.std.proofs.Common.{◌≡◌, ◌≢◌, ◌∙◌, ◌<◌, ◌≤◌, ◌+◌, ℕ, zero, suc, List, [], ◌∷◌, length, map, get_or, ap, sym, subst, refl, arith, cond, eqb, nat_lt, Bool, true, false, Option, Some, None, is_some, IsSome, IsTrue, MatchBool, ◌⊎◌, inl, inr, All, Contains, slice_index}
 use Rattle.std.proofs.lemmas.Bool.{cases_lt}
 use Rattle.std.proofs.lemmas.Bool.Decides.{nat_tests}
-use Rattle.mit_path.specs.Choice.{chosen, found_or, last_below, operand_of}
+use Rattle.mit_path.specs.Choice.{chosen_operand, found_or, last_below, operand_of}
 use Rattle.mit_plan.specs.Paths.{IsPath, next_of}
 use Rattle.mit_plan.specs.Plans.{PlanOf, block_at, is_phi, no_block, no_edge, op_at}
 use Rattle.mit_plan.specs.Valid.{Chooses, AreApart, EdgesGoUp, GoesUp, OperandsApart, PlacesToChoose, source_blocks}
 use Rattle.mit_plan.specs.declared.plan.Edge.{Edge}
 use Rattle.mit_plan.specs.declared.plan.PlanBlock.{PlanBlock}
 use Rattle.mit_plan.specs.declared.plan.PlanOp.{PlanOp}
-use Rattle.mit_ssa.specs.PlanFor.{edges_from, edges_in}
+use Rattle.mit_ssa.specs.PlanFor.{edges_in, operator_edges}
 use Rattle.mit_ssa.specs.declared.block.Operator.{Operator}
 use Rattle.mit_ssa.specs.declared.block.Source.{Source}
 use Rattle.mit_ssa.proofs.DefinitionsPhis.{Each}
@@ -19,7 +19,7 @@ use Rattle.mit_ssa.proofs.DefinitionsEdges.{each_all, each_any, each_contains, e
 
 -- a plan of good blocks
 pub record IsGoodPlan (variables : ℕ) (look : Marks) (plan : PlanOf) (operators : List Operator) : Type 0 where
-  pub edges : plan.edges ≡ edges_from 0 operators
+  pub edges : plan.edges ≡ operator_edges 0 operators
   pub many : length plan.ops ≡ length operators
   pub begin : (variable : ℕ) → (look 0).entry variable ≡ []
   pub outside : (block : ℕ) → length plan.blocks ≤ block → (look block).start ≡ 0
@@ -367,7 +367,7 @@ phi_chooses variables look plan path place block operator phi here entered = by_
     by_entry (inl none) = absurd (no_empty (sym entry ∙ none))
     by_entry (inr some) = by_listed some.op some.visited (subst (λ (w : List ℕ). Among w some.op) entry some.listed)
 
-source_chooses : (plan : PlanOf) (path : List ℕ) (place op : ℕ) → Visited plan path (suc place) op → IsSome (chosen path (home plan op ∷ []) place false)
+source_chooses : (plan : PlanOf) (path : List ℕ) (place op : ℕ) → Visited plan path (suc place) op → IsSome (chosen_operand path (home plan op ∷ []) place false)
 source_chooses plan path place op visited =
     last_some path (home plan op ∷ []) (suc place) visited.at visited.before (one_operand (slice_index path visited.at) (home plan op) visited.is)
 
@@ -403,22 +403,22 @@ op_chooses variables look plan operators path place op good is_path below is_op 
 
     by_kind : GoodOp variables look (good.stands op is_op).block op (get_or operators op no_operator) → Chooses plan path place op
     by_kind (inl plain) =
-        by_no_test (is_phi (op_at plan op)) (IsSome (chosen path (source_blocks plan op) place true))
-        (All (λ block. IsSome (chosen path (block ∷ []) place false)) (source_blocks plan op))
+        by_no_test (is_phi (op_at plan op)) (IsSome (chosen_operand path (source_blocks plan op) place true))
+        (All (λ block. IsSome (chosen_operand path (block ∷ []) place false)) (source_blocks plan op))
         (no_phi (op_at plan op) (get_or operators op no_operator) (good.stands op is_op).is.phi_is plain.0)
-        (subst (λ (bs : List ℕ). All (λ block. IsSome (chosen path (block ∷ []) place false)) bs) (sym (sources_are variables look plan operators op good is_op))
-        (each_all (λ block. IsSome (chosen path (block ∷ []) place false)) (map (λ source. home plan source.from) (get_or operators op no_operator).inputs)
-        (each_block (λ block. IsSome (chosen path (block ∷ []) place false)) (λ source. IsPassed variables look (good.stands op is_op).block op source.from)
+        (subst (λ (bs : List ℕ). All (λ block. IsSome (chosen_operand path (block ∷ []) place false)) bs) (sym (sources_are variables look plan operators op good is_op))
+        (each_all (λ block. IsSome (chosen_operand path (block ∷ []) place false)) (map (λ source. home plan source.from) (get_or operators op no_operator).inputs)
+        (each_block (λ block. IsSome (chosen_operand path (block ∷ []) place false)) (λ source. IsPassed variables look (good.stands op is_op).block op source.from)
         (λ source. home plan source.from) (get_or operators op no_operator).inputs
         (λ source passed. source_chooses plan path place source.from
         (passed_visited variables look plan operators path place source.from op good is_block (omega arith) bound entered
         (subst (λ (b : ℕ). IsPassed variables look b op source.from) (sym at_block) passed)))
         plain.1)))
     by_kind (inr both) =
-        by_test (is_phi (op_at plan op)) (IsSome (chosen path (source_blocks plan op) place true))
-        (All (λ block. IsSome (chosen path (block ∷ []) place false)) (source_blocks plan op))
+        by_test (is_phi (op_at plan op)) (IsSome (chosen_operand path (source_blocks plan op) place true))
+        (All (λ block. IsSome (chosen_operand path (block ∷ []) place false)) (source_blocks plan op))
         (a_phi (op_at plan op) (get_or operators op no_operator) (good.stands op is_op).is.phi_is both.0)
-        (subst (λ (bs : List ℕ). IsSome (chosen path bs place true)) (sym (phi_blocks variables look plan operators op (good.stands op is_op).block good is_op both.1))
+        (subst (λ (bs : List ℕ). IsSome (chosen_operand path bs place true)) (sym (phi_blocks variables look plan operators op (good.stands op is_op).block good is_op both.1))
         (phi_chooses variables look plan path place (good.stands op is_op).block (get_or operators op no_operator) both.1 at_block entered))
 
 pub places_to_choose : (variables : ℕ) (look : Marks) (plan : PlanOf) (operators : List Operator) → IsGoodPlan variables look plan operators → PlacesToChoose plan

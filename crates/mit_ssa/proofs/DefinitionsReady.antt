@@ -4,7 +4,7 @@ use Rattle.std.specs.List.{list_all}
 use Rattle.std.proofs.lemmas.Bool.Decides.{nat_tests}
 use Rattle.mit_ops.specs.declared.kinds.OpSpec.{OpSpec}
 use Rattle.mit_ops.specs.declared.types.VarType.{VarType}
-use Rattle.mit_script.specs.Accepted.{Check, Fault, Known, and_then, assigned_by, assigned_in_both, assigning, branched, decided_by, fault_at, fault_or, first_type, in_order, is_assigned, is_condition, is_kept, judged, looped, passed, rejoined, with_assigned, written_by}
+use Rattle.mit_script.specs.Accepted.{Check, Fault, Known, and_then, assigned_by, assigned_in_both, assigning, branched, decided_by, fault_here, fault_or, first_type, in_order, is_assigned, is_condition, is_kept, judged, looped, passed, rejoined, with_assigned, written_by}
 use Rattle.mit_script.specs.declared.typed.CheckCode.{CheckCode}
 use Rattle.mit_script.specs.declared.typed.CheckCode.TheVariants.{WrongType}
 use Rattle.mit_ssa.specs.Woven.{Defined, defining}
@@ -118,12 +118,12 @@ pub assigns_known : (target : ℕ) (operator : OpSpec) (args : List ℕ) (known 
 assigns_known target operator args known known_after is = by_judged (judged known operator args) refl is
   where
     by_judged : (found : Result VarType CheckCode) → judged known operator args ≡ found
-        → and_then (fault_or known found) (λ type. cond (is_kept (first_type known target) type) (Ok (assigning target type known)) (Err (fault_at known WrongType))) ≡ Ok known_after
+        → and_then (fault_or known found) (λ type. cond (is_kept (first_type known target) type) (Ok (assigning target type known)) (Err (fault_here known WrongType))) ≡ Ok known_after
         → Assigns target operator args known known_after
     by_judged (Ok type) found is = record {
       type = type;
       args_known = judged_args known operator args type found;
-      is = kept (is_kept (first_type known target) type) (assigning target type known) known_after (fault_at known WrongType) is;
+      is = kept (is_kept (first_type known target) type) (assigning target type known) known_after (fault_here known WrongType) is;
     }
     by_judged (Err code) found is = absurd cc
 
@@ -146,11 +146,11 @@ pub decides_known : (operator : OpSpec) (args : List ℕ) (known known_after : K
 decides_known operator args known known_after is = by_judged (judged known operator args) refl is
   where
     by_judged : (found : Result VarType CheckCode) → judged known operator args ≡ found
-        → and_then (fault_or known found) (λ type. cond (is_condition type) (Ok (passed known)) (Err (fault_at known WrongType))) ≡ Ok known_after
+        → and_then (fault_or known found) (λ type. cond (is_condition type) (Ok (passed known)) (Err (fault_here known WrongType))) ≡ Ok known_after
         → Passes args known known_after
     by_judged (Ok type) found is = record {
       args_known = judged_args known operator args type found;
-      is = kept (is_condition type) (passed known) known_after (fault_at known WrongType) is;
+      is = kept (is_condition type) (passed known) known_after (fault_here known WrongType) is;
     }
     by_judged (Err code) found is = absurd cc
 

@@ -5,12 +5,12 @@ use Rattle.std.proofs.lemmas.List.Sums.{sum_by-cons}
 use Rattle.mit_ops.specs.declared.kinds.OpSpec.{OpSpec}
 use Rattle.mit_ops.specs.declared.leave.Leave.TheVariants.{Jump, Branch}
 use Rattle.mit_ops.specs.declared.types.VarType.{VarType}
-use Rattle.mit_script.specs.Accepted.{Check, Fault, Known, branched as branched_check, check_of, check_step, decided_by, in_order, is_assigned, looped as looped_check, with_assigned}
+use Rattle.mit_script.specs.Accepted.{Check, Fault, Known, branched, check_of, check_step, decided_by, in_order, is_assigned, looped, with_assigned}
 use Rattle.mit_script.specs.declared.tree.Stmt.{Stmt, roll-Stmt}
 use Rattle.mit_script.specs.declared.tree.Stmt.TheFolds.{fold-roll-Stmt, ind-Stmt, map-Stmt}
 use Rattle.mit_script.specs.declared.tree.Stmt.TheOpen.{Stmt-F}
 use Rattle.mit_script.specs.declared.tree.Stmt.TheOpen as layer
-use Rattle.mit_ssa.specs.Woven.{Defined, Place, Stretch, Weave, Woven, adds, after, all_of, assigned_in, branched, counts, defining, join_phis, left, loop_phis, looped, on_both, operator_of, phis_of, preceded, weave_of, weave_step, with_phis, woven_all}
+use Rattle.mit_ssa.specs.Woven.{Defined, Weave, WeavePlace, Woven, WovenStretch, assigned_in, defining, join_phis, just_left, loop_phis, on_both, operator_of, operators_first, phis_of, place_after, stretch_blocks, weave_adds, weave_counts, weave_of, weave_step, with_phis, woven_all, woven_branch, woven_loop}
 use Rattle.mit_ssa.specs.declared.block.Operator.{Operator}
 use Rattle.mit_ssa.proofs.DefinitionsPhis.{Each, one_some, phis_stay}
 use Rattle.mit_ssa.proofs.DefinitionsEnds.{Ends, assign_ends, both_some, compose, further, if_ends, while_inside, write_ends}
@@ -35,35 +35,35 @@ pub record IsAt (variables : ℕ) (look : Marks) (block number : ℕ) (defined :
   pub start : (look block).start ≤ number
   pub has : Has variables look block number defined
 
-abbrev pub Follows : ℕ → Marks → ℕ → ℕ → Defined → Stretch → ℕ → ℕ → Type 0
+abbrev pub Follows : ℕ → Marks → ℕ → ℕ → Defined → WovenStretch → ℕ → ℕ → Type 0
 Follows variables look block number defined stretch last end =
     IsAt variables look block number defined → GoodStretch variables look block number stretch last end
 
-follows_at : (variables : ℕ) (look : Marks) (block other number : ℕ) (defined : Defined) (stretch : Stretch) (last end : ℕ) → block ≡ other
+follows_at : (variables : ℕ) (look : Marks) (block other number : ℕ) (defined : Defined) (stretch : WovenStretch) (last end : ℕ) → block ≡ other
     → Follows variables look block number defined stretch last end → Follows variables look other number defined stretch last end
 follows_at variables look block other number defined stretch last end same =
     subst (λ (b : ℕ). Follows variables look b number defined stretch last end) same
 
 -- a part of a script that begins at a place
-pub record Good (variables : ℕ) (place : Place) (added : ℕ) (woven : Woven) : Type 0 where
+pub record Good (variables : ℕ) (place : WeavePlace) (added : ℕ) (woven : Woven) : Type 0 where
   pub marks : List Mark
   pub many : length marks ≡ added
-  pub carries : (look : Marks) → Placed look (place.block + 1) marks → (stretch : Stretch) (last end : ℕ)
+  pub carries : (look : Marks) → Placed look (place.block + 1) marks → (stretch : WovenStretch) (last end : ℕ)
       → Follows variables look (place.block + added) woven.operator woven.defined stretch last end
       → Follows variables look place.block place.operator place.defined (woven.onto stretch) last end
 
 pub record Flows (variables : ℕ) (weave : Weave) (check : Check) : Type 0 where
-  pub ends : (place : Place) → Ends variables place.operator (weave.weave place).operator place.defined (weave.weave place).defined weave.assigns
-  pub passes : (place : Place) (known known_after : Known) → check known ≡ Ok known_after → Ready variables known place.defined
+  pub ends : (place : WeavePlace) → Ends variables place.operator (weave.weave place).operator place.defined (weave.weave place).defined weave.assigns
+  pub passes : (place : WeavePlace) (known known_after : Known) → check known ≡ Ok known_after → Ready variables known place.defined
       → Ready variables known_after (weave.weave place).defined
-  pub good : (place : Place) (known known_after : Known) → check known ≡ Ok known_after → Ready variables known place.defined
+  pub good : (place : WeavePlace) (known known_after : Known) → check known ≡ Ok known_after → Ready variables known place.defined
       → Good variables place weave.added (weave.weave place)
   pub sizes : (known known_after : Known) → check known ≡ Ok known_after → length known_after.types ≡ length known.types
 
 -- ---- one after another
 
 abbrev pub all_weave : List Weave → Weave
-all_weave weaves = record { count = counts weaves; added = adds weaves; assigns = assigned_in weaves; weave = woven_all weaves }
+all_weave weaves = record { count = weave_counts weaves; added = weave_adds weaves; assigns = assigned_in weaves; weave = woven_all weaves }
 
 one_ok : (a b : Known) → ◌≡◌ {A = Result Known Fault} (Ok a) (Ok b) → a ≡ b
 one_ok a b same = cc
@@ -86,18 +86,18 @@ none_flows variables = record {
     marks = [];
     many = refl;
     carries = λ look placed stretch last end later.
-        let e : place.block + adds [] ≡ place.block = omega arith in
-        follows_at variables look (place.block + adds []) place.block place.operator place.defined stretch last end e later;
+        let e : place.block + weave_adds [] ≡ place.block = omega arith in
+        follows_at variables look (place.block + weave_adds []) place.block place.operator place.defined stretch last end e later;
   };
   sizes = λ known known_after is. same_size (sym (one_ok known known_after is));
 }
 
-adds_more : (weave : Weave) (weaves : List Weave) → adds (weave ∷ weaves) ≡ weave.added + adds weaves
+adds_more : (weave : Weave) (weaves : List Weave) → weave_adds (weave ∷ weaves) ≡ weave.added + weave_adds weaves
 adds_more weave weaves = sum_by-cons (λ (n : ℕ). n) weave.added (map (λ (one : Weave). one.added) weaves)
 
-more_good : (variables : ℕ) (weave : Weave) (weaves : List Weave) (place : Place) → Good variables place weave.added (weave.weave place)
-    → Good variables (after place weave (weave.weave place)) (adds weaves) (woven_all weaves (after place weave (weave.weave place)))
-    → Good variables place (adds (weave ∷ weaves)) (woven_all (weave ∷ weaves) place)
+more_good : (variables : ℕ) (weave : Weave) (weaves : List Weave) (place : WeavePlace) → Good variables place weave.added (weave.weave place)
+    → Good variables (place_after place weave (weave.weave place)) (weave_adds weaves) (woven_all weaves (place_after place weave (weave.weave place)))
+    → Good variables place (weave_adds (weave ∷ weaves)) (woven_all (weave ∷ weaves) place)
 unfolding woven_all
 more_good variables weave weaves place first rest = record {
   marks = first.marks ++ rest.marks;
@@ -105,15 +105,15 @@ more_good variables weave weaves place first rest = record {
   carries = λ look placed stretch last end later.
       let split = placed_split look (place.block + 1) first.marks rest.marks placed in
       let e : place.block + 1 + length first.marks ≡ place.block + weave.added + 1 = omega (arith, first.many) in
-      let f : place.block + adds (weave ∷ weaves) ≡ place.block + weave.added + adds weaves = (let g = adds_more weave weaves in omega (arith, g)) in
+      let f : place.block + weave_adds (weave ∷ weaves) ≡ place.block + weave.added + weave_adds weaves = (let g = adds_more weave weaves in omega (arith, g)) in
       first.carries look split.0 ((woven_all weaves next).onto stretch) last end
       (rest.carries look (subst (λ (b : ℕ). Placed look b rest.marks) e split.1) stretch last end
-      (follows_at variables look (place.block + adds (weave ∷ weaves)) (place.block + weave.added + adds weaves) (woven_all weaves next).operator
+      (follows_at variables look (place.block + weave_adds (weave ∷ weaves)) (place.block + weave.added + weave_adds weaves) (woven_all weaves next).operator
       (woven_all weaves next).defined stretch last end f later));
 }
   where
-    next : Place
-    next = after place weave (weave.weave place)
+    next : WeavePlace
+    next = place_after place weave (weave.weave place)
 
 more_flows : (variables : ℕ) (weave : Weave) (weaves : List Weave) (check : Check) (checks : List Check) → Flows variables weave check
     → Flows variables (all_weave weaves) (in_order checks) → Flows variables (all_weave (weave ∷ weaves)) (in_order (check ∷ checks))
@@ -134,8 +134,8 @@ more_flows variables weave weaves check checks one rest = record {
       rest.sizes parts.middle known_after parts.second ∙ one.sizes known parts.middle parts.first;
 }
   where
-    next : Place → Place
-    next place = after place weave (weave.weave place)
+    next : WeavePlace → WeavePlace
+    next place = place_after place weave (weave.weave place)
 
 -- ---- an assignment, and a write
 
@@ -215,19 +215,19 @@ entered_at variables look block number defined start entry before =
     record { start = omega (arith, start); has = enter_has variables look block number defined entry before }
 
 if_holds : (variables : ℕ) (look : Marks) (block other join true_last false_last number middle most : ℕ) (on_true on_false : List Weave) (env one two : Defined)
-    (operator : Operator) (first second stretch : Stretch) (last end : ℕ)
+    (operator : Operator) (first second stretch : WovenStretch) (last end : ℕ)
     → Ends variables (number + 1) middle env one (assigned_in on_true) → Ends variables middle most env two (assigned_in on_false)
     → GoodOp variables look block number operator → IsAt variables look block number env
     → ((variable : ℕ) → (look (block + 1)).entry variable ≡ only_of env variable) → ((variable : ℕ) → (look other).entry variable ≡ only_of env variable)
     → JoinAt variables look (block + 1) other join (number + 1) middle most on_true on_false one two
     → true_last + 1 ≡ other → false_last + 1 ≡ join
-    → (Follows variables look true_last middle one (left (Jump join)) other middle → Follows variables look (block + 1) (number + 1) env first other middle)
-    → (Follows variables look false_last most two (left (Jump join)) join most → Follows variables look other middle env second join most)
+    → (Follows variables look true_last middle one (just_left (Jump join)) other middle → Follows variables look (block + 1) (number + 1) env first other middle)
+    → (Follows variables look false_last most two (just_left (Jump join)) join most → Follows variables look other middle env second join most)
     → Follows variables look join (most + length (join_phis variables on_true on_false one two))
     (with_phis (on_both one two) most (join_phis variables on_true on_false one two)) stretch last end
     → GoodStretch variables look block number (record {
       first = record { operators = operator ∷ []; leave = Branch (block + 1) other };
-      later = (all_of first ++ all_of second) ++ all_of (preceded (phis_of one two (join_phis variables on_true on_false one two)) stretch);
+      later = (stretch_blocks first ++ stretch_blocks second) ++ stretch_blocks (operators_first (phis_of one two (join_phis variables on_true on_false one two)) stretch);
     }) last end
 unfolding GoodOps Each
 if_holds variables look block other join true_last false_last number middle most on_true on_false env one two operator first second stretch last end
@@ -237,8 +237,8 @@ if_holds variables look block other join true_last false_last number middle most
         ops = (good, refl);
         leads = (leads_only variables look block (number + 1) (block + 1) env entry_true has, (leads_only variables look block (number + 1) other env entry_false has, tt));
       };
-      rest = blocks_append variables look (block + 1) (number + 1) (all_of first ++ all_of second) (all_of (preceded (phis_of one two phis) stretch)) join most last end
-          (blocks_append variables look (block + 1) (number + 1) (all_of first) (all_of second) other middle join most
+      rest = blocks_append variables look (block + 1) (number + 1) (stretch_blocks first ++ stretch_blocks second) (stretch_blocks (operators_first (phis_of one two phis) stretch)) join most last end
+          (blocks_append variables look (block + 1) (number + 1) (stretch_blocks first) (stretch_blocks second) other middle join most
           (begins variables look (block + 1) (number + 1) first other middle joins.true_start
           (through_one (λ at_end. leaves_for variables look true_last middle join other true_ends
           (leads_from_one variables look true_last middle join on_true on_false one two joins.entry at_end.has))
@@ -247,7 +247,7 @@ if_holds variables look block other join true_last false_last number middle most
           (through_two (λ at_end. leaves_for variables look false_last most join join false_ends
           (leads_from_two variables look false_last most join (number + 1) middle most on_true on_false env one two ends_one ends_two joins.entry at_end.has))
           (entered_at variables look other middle env joins.false_start entry_false before_middle))))
-          (begins variables look join most (preceded (phis_of one two phis) stretch) last end joins.join_start
+          (begins variables look join most (operators_first (phis_of one two phis) stretch) last end joins.join_start
           (phis_precede variables look join most one two phis stretch last end
           (join_phis_good variables look (block + 1) other join (number + 1) middle most on_true on_false env one two ends_one ends_two before joins)
           (later (record {
@@ -268,25 +268,25 @@ if_holds variables look block other join true_last false_last number middle most
     before_middle : (variable operator : ℕ) → variable < variables → env variable ≡ Some operator → operator < middle
     before_middle variable operator below is = let b = before variable operator below is in omega (arith, b, ends_one.grows)
 
-abbrev pub inside_of : Place → Place
+abbrev pub inside_of : WeavePlace → WeavePlace
 inside_of place = record { block = place.block + 1; operator = place.operator + 1; statement = place.statement + 1; defined = place.defined }
 
-abbrev pub beside_of : List Weave → Place → Place
+abbrev pub beside_of : List Weave → WeavePlace → WeavePlace
 beside_of on_true place = record {
-  block = place.block + 2 + adds on_true;
+  block = place.block + 2 + weave_adds on_true;
   operator = (woven_all on_true (inside_of place)).operator;
-  statement = place.statement + 1 + counts on_true;
+  statement = place.statement + 1 + weave_counts on_true;
   defined = place.defined;
 }
 
-if_good : (types : List VarType) (operator : OpSpec) (args : List ℕ) (on_true on_false : List Weave) (place : Place) (known : Known)
+if_good : (types : List VarType) (operator : OpSpec) (args : List ℕ) (on_true on_false : List Weave) (place : WeavePlace) (known : Known)
     → Ends (length types) (place.operator + 1) (woven_all on_true (inside_of place)).operator place.defined (woven_all on_true (inside_of place)).defined (assigned_in on_true)
     → Ends (length types) (woven_all on_true (inside_of place)).operator (woven_all on_false (beside_of on_true place)).operator place.defined
     (woven_all on_false (beside_of on_true place)).defined (assigned_in on_false)
     → Ready (length types) known place.defined → list_all (is_assigned known.assigned) args ≡ true
-    → Good (length types) (inside_of place) (adds on_true) (woven_all on_true (inside_of place))
-    → Good (length types) (beside_of on_true place) (adds on_false) (woven_all on_false (beside_of on_true place))
-    → Good (length types) place (3 + adds on_true + adds on_false) (branched types operator args on_true on_false place)
+    → Good (length types) (inside_of place) (weave_adds on_true) (woven_all on_true (inside_of place))
+    → Good (length types) (beside_of on_true place) (weave_adds on_false) (woven_all on_false (beside_of on_true place))
+    → Good (length types) place (3 + weave_adds on_true + weave_adds on_false) (woven_branch types operator args on_true on_false place)
 unfolding Placed
 if_good types operator args on_true on_false place known ends_one ends_two ready all first second = record {
   marks = true_mark ∷ (first.marks ++ false_mark ∷ (second.marks ++ join_mark ∷ []));
@@ -297,9 +297,9 @@ if_good types operator args on_true on_false place known ends_one ends_two ready
       let false_placed = subst (λ (b : ℕ). Placed look b (false_mark ∷ (second.marks ++ join_mark ∷ []))) to_other one_placed.1 in
       let two_placed = placed_split look (other + 1) second.marks (join_mark ∷ []) false_placed.1 in
       let join_placed = subst (λ (b : ℕ). Placed look b (join_mark ∷ [])) to_join two_placed.1 in
-      if_holds (length types) look place.block other join (place.block + 1 + adds on_true) (other + adds on_false) place.operator one.operator two.operator
+      if_holds (length types) look place.block other join (place.block + 1 + weave_adds on_true) (other + weave_adds on_false) place.operator one.operator two.operator
       on_true on_false place.defined one.defined two.defined (operator_of types place.defined place.statement operator args)
-      (one.onto (left (Jump join))) (two.onto (left (Jump join))) stretch last end ends_one ends_two
+      (one.onto (just_left (Jump join))) (two.onto (just_left (Jump join))) stretch last end ends_one ends_two
       (operator_good (length types) look place.block place.operator types known place.defined place.statement operator args at.has ready all) at
       (λ variable. ap (λ (m : Mark). m.entry variable) placed.0) (λ variable. ap (λ (m : Mark). m.entry variable) false_placed.0)
       (record {
@@ -309,9 +309,9 @@ if_good types operator args on_true on_false place known ends_one ends_two ready
         entry = λ variable. ap (λ (m : Mark). m.entry variable) join_placed.0;
       })
       (omega arith) (omega arith)
-      (first.carries look one_placed.0 (left (Jump join)) other one.operator)
-      (second.carries look two_placed.0 (left (Jump join)) join two.operator)
-      (follows_at (length types) look (place.block + (3 + adds on_true + adds on_false)) join (two.operator + length phis)
+      (first.carries look one_placed.0 (just_left (Jump join)) other one.operator)
+      (second.carries look two_placed.0 (just_left (Jump join)) join two.operator)
+      (follows_at (length types) look (place.block + (3 + weave_adds on_true + weave_adds on_false)) join (two.operator + length phis)
       (with_phis (on_both one.defined two.defined) two.operator phis) stretch last end (omega arith) later);
 }
   where
@@ -322,10 +322,10 @@ if_good types operator args on_true on_false place known ends_one ends_two ready
     two = woven_all on_false (beside_of on_true place)
 
     other : ℕ
-    other = place.block + 2 + adds on_true
+    other = place.block + 2 + weave_adds on_true
 
     join : ℕ
-    join = place.block + 2 + adds on_true + 1 + adds on_false
+    join = place.block + 2 + weave_adds on_true + 1 + weave_adds on_false
 
     phis : List ℕ
     phis = join_phis (length types) on_true on_false one.defined two.defined
@@ -339,10 +339,10 @@ if_good types operator args on_true on_false place known ends_one ends_two ready
     join_mark : Mark
     join_mark = record { entry = either_of phis one.defined two.defined (on_both one.defined two.defined); start = two.operator }
 
-    to_other : place.block + 1 + 1 + length first.marks ≡ place.block + 2 + adds on_true
+    to_other : place.block + 1 + 1 + length first.marks ≡ place.block + 2 + weave_adds on_true
     to_other = omega (arith, first.many)
 
-    to_join : place.block + 2 + adds on_true + 1 + length second.marks ≡ place.block + 2 + adds on_true + 1 + adds on_false
+    to_join : place.block + 2 + weave_adds on_true + 1 + length second.marks ≡ place.block + 2 + weave_adds on_true + 1 + weave_adds on_false
     to_join = omega (arith, second.many)
 
 if_flows : (types : List VarType) (operator : OpSpec) (args : List ℕ) (on_true on_false : List Weave) (true_checks false_checks : List Check)
@@ -354,18 +354,18 @@ if_flows types operator args on_true on_false true_checks false_checks first sec
       place.defined (woven_all on_true (inside_of place)).defined (woven_all on_false (beside_of on_true place)).defined (first.ends (inside_of place))
       (second.ends (beside_of on_true place));
   passes = λ place known known_after is ready.
-      let parts = then_known (decided_by operator args) (branched_check true_checks false_checks) known known_after is in
+      let parts = then_known (decided_by operator args) (branched true_checks false_checks) known known_after is in
       let decided = decides_known operator args known parts.middle parts.first in
       let inside_ready = subst (λ (k : Known). Ready (length types) k place.defined) decided.is (passed_ready (length types) known place.defined ready) in
       let joins = rejoins_known true_checks false_checks parts.middle known_after parts.second in
       let one_ready = first.passes (inside_of place) parts.middle joins.one joins.first inside_ready in
       let two_ready = second.passes (beside_of on_true place) (with_assigned parts.middle.assigned joins.one) joins.other joins.second
       (beside_ready (length types) parts.middle joins.one place.defined inside_ready) in
-      subst (λ (k : Known). Ready (length types) k (branched types operator args on_true on_false place).defined) joins.is
+      subst (λ (k : Known). Ready (length types) k (woven_branch types operator args on_true on_false place).defined) joins.is
       (joined_ready (length types) joins.one joins.other (woven_all on_true (inside_of place)).defined (woven_all on_false (beside_of on_true place)).defined
-      (branched types operator args on_true on_false place).defined one_ready two_ready (λ variable. stays place variable));
+      (woven_branch types operator args on_true on_false place).defined one_ready two_ready (λ variable. stays place variable));
   good = λ place known known_after is ready.
-      let parts = then_known (decided_by operator args) (branched_check true_checks false_checks) known known_after is in
+      let parts = then_known (decided_by operator args) (branched true_checks false_checks) known known_after is in
       let decided = decides_known operator args known parts.middle parts.first in
       let inside_ready = subst (λ (k : Known). Ready (length types) k place.defined) decided.is (passed_ready (length types) known place.defined ready) in
       let joins = rejoins_known true_checks false_checks parts.middle known_after parts.second in
@@ -374,16 +374,16 @@ if_flows types operator args on_true on_false true_checks false_checks first sec
       (second.good (beside_of on_true place) (with_assigned parts.middle.assigned joins.one) joins.other joins.second
       (beside_ready (length types) parts.middle joins.one place.defined inside_ready));
   sizes = λ known known_after is.
-      let parts = then_known (decided_by operator args) (branched_check true_checks false_checks) known known_after is in
+      let parts = then_known (decided_by operator args) (branched true_checks false_checks) known known_after is in
       let decided = decides_known operator args known parts.middle parts.first in
       let joins = rejoins_known true_checks false_checks parts.middle known_after parts.second in
       same_size (sym joins.is) ∙ (second.sizes (with_assigned parts.middle.assigned joins.one) joins.other joins.second
       ∙ (first.sizes parts.middle joins.one joins.first ∙ same_size (sym decided.is)));
 }
   where
-    stays : (place : Place) (variable : ℕ) → is_some ((woven_all on_true (inside_of place)).defined variable) ≡ true
+    stays : (place : WeavePlace) (variable : ℕ) → is_some ((woven_all on_true (inside_of place)).defined variable) ≡ true
         → is_some ((woven_all on_false (beside_of on_true place)).defined variable) ≡ true
-        → is_some ((branched types operator args on_true on_false place).defined variable) ≡ true
+        → is_some ((woven_branch types operator args on_true on_false place).defined variable) ≡ true
     stays place variable one_some two_some =
         phis_stay (on_both (woven_all on_true (inside_of place)).defined (woven_all on_false (beside_of on_true place)).defined)
         (woven_all on_false (beside_of on_true place)).operator
@@ -393,7 +393,7 @@ if_flows types operator args on_true on_false true_checks false_checks first sec
 -- ---- a `while`
 
 while_holds : (variables : ℕ) (look : Marks) (block inner exit inner_last number most : ℕ) (body : List Weave) (env turn : Defined) (operator : Operator)
-    (around stretch : Stretch) (last end : ℕ)
+    (around stretch : WovenStretch) (last end : ℕ)
     → Ends variables (number + length (loop_phis variables body env) + 1) most (with_phis env number (loop_phis variables body env)) turn (assigned_in body)
     → IsAt variables look block number env → HeaderAt variables look (block + 1) number body env turn
     → GoodOp variables look (block + 1) (number + length (loop_phis variables body env)) operator
@@ -401,19 +401,19 @@ while_holds : (variables : ℕ) (look : Marks) (block inner exit inner_last numb
     → (look inner).start ≡ number + length (loop_phis variables body env) + 1
     → ((variable : ℕ) → (look exit).entry variable ≡ only_of (with_phis env number (loop_phis variables body env)) variable) → (look exit).start ≡ most
     → block + 1 + 1 ≡ inner → inner_last + 1 ≡ exit
-    → (Follows variables look inner_last most turn (left (Jump (block + 1))) exit most
+    → (Follows variables look inner_last most turn (just_left (Jump (block + 1))) exit most
     → Follows variables look inner (number + length (loop_phis variables body env) + 1) (with_phis env number (loop_phis variables body env)) around exit most)
     → Follows variables look exit most (with_phis env number (loop_phis variables body env)) stretch last end
     → GoodStretch variables look block number (record {
       first = record { operators = []; leave = Jump (block + 1) };
-      later = record { operators = phis_of env turn (loop_phis variables body env) ++ operator ∷ []; leave = Branch inner exit } ∷ (all_of around ++ all_of stretch);
+      later = record { operators = phis_of env turn (loop_phis variables body env) ++ operator ∷ []; leave = Branch inner exit } ∷ (stretch_blocks around ++ stretch_blocks stretch);
     }) last end
 unfolding GoodOps Each
 while_holds variables look block inner exit inner_last number most body env turn operator around stretch last end ends at header_at good entry_inner start_inner
     entry_exit start_exit to_inner to_exit through later = record {
       next = number;
       good = record { ops = refl; leads = (leads_before variables look block number (block + 1) body env turn header_at.entry at.has, tt) };
-      rest = begins variables look (block + 1) number (preceded (phis_of env turn phis) header) last end header_at.start
+      rest = begins variables look (block + 1) number (operators_first (phis_of env turn phis) header) last end header_at.start
           (phis_precede variables look (block + 1) number env turn phis header last end
           (loop_phis_good variables look (block + 1) inner exit number (number + length phis + 1) most body env turn ends stays before header_at (omega (arith, to_inner))
           start_inner (omega arith) start_exit)
@@ -426,8 +426,8 @@ while_holds variables look block inner exit inner_last number most body env turn
                 (leads_only variables look (block + 1) (number + length phis + 1) exit inside entry_exit has, tt),
               );
             };
-            rest = subst (λ (b : ℕ). GoodBlocks variables look b (number + length phis + 1) (all_of around ++ all_of stretch) last end) (sym to_inner)
-                (blocks_append variables look inner (number + length phis + 1) (all_of around) (all_of stretch) exit most last end
+            rest = subst (λ (b : ℕ). GoodBlocks variables look b (number + length phis + 1) (stretch_blocks around ++ stretch_blocks stretch) last end) (sym to_inner)
+                (blocks_append variables look inner (number + length phis + 1) (stretch_blocks around) (stretch_blocks stretch) exit most last end
                 (begins variables look inner (number + length phis + 1) around exit most start_inner
                 (through (λ at_end. leaves_for variables look inner_last most (block + 1) exit to_exit
                 (leads_back variables look inner_last most (block + 1) number (number + length phis + 1) most body env turn ends stays header_at.entry at_end.has))
@@ -442,8 +442,8 @@ while_holds variables look block inner exit inner_last number most body env turn
     inside : Defined
     inside = with_phis env number phis
 
-    header : Stretch
-    header = record { first = record { operators = operator ∷ []; leave = Branch inner exit }; later = all_of around ++ all_of stretch }
+    header : WovenStretch
+    header = record { first = record { operators = operator ∷ []; leave = Branch inner exit }; later = stretch_blocks around ++ stretch_blocks stretch }
 
     before : (variable operator : ℕ) → variable < variables → env variable ≡ Some operator → operator < number
     before variable operator below is = (at.has variable operator below is).before
@@ -461,10 +461,10 @@ while_holds variables look block inner exit inner_last number most body env turn
     before_exit : (variable operator : ℕ) → variable < variables → inside variable ≡ Some operator → operator < most
     before_exit variable operator below is = let b = before_inner variable operator below is in omega (arith, b, ends.grows)
 
-abbrev pub phis_at : List VarType → List Weave → Place → List ℕ
+abbrev pub phis_at : List VarType → List Weave → WeavePlace → List ℕ
 phis_at types body place = loop_phis (length types) body place.defined
 
-abbrev pub turn_of : List VarType → List Weave → Place → Place
+abbrev pub turn_of : List VarType → List Weave → WeavePlace → WeavePlace
 turn_of types body place = record {
   block = place.block + 2;
   operator = place.operator + length (phis_at types body place) + 1;
@@ -472,12 +472,12 @@ turn_of types body place = record {
   defined = with_phis place.defined place.operator (phis_at types body place);
 }
 
-while_good : (types : List VarType) (operator : OpSpec) (args : List ℕ) (body : List Weave) (place : Place) (known : Known)
+while_good : (types : List VarType) (operator : OpSpec) (args : List ℕ) (body : List Weave) (place : WeavePlace) (known : Known)
     → Ends (length types) (place.operator + length (phis_at types body place) + 1) (woven_all body (turn_of types body place)).operator
     (with_phis place.defined place.operator (phis_at types body place)) (woven_all body (turn_of types body place)).defined (assigned_in body)
     → Ready (length types) known (with_phis place.defined place.operator (phis_at types body place)) → list_all (is_assigned known.assigned) args ≡ true
-    → Good (length types) (turn_of types body place) (adds body) (woven_all body (turn_of types body place))
-    → Good (length types) place (3 + adds body) (looped types operator args body place)
+    → Good (length types) (turn_of types body place) (weave_adds body) (woven_all body (turn_of types body place))
+    → Good (length types) place (3 + weave_adds body) (woven_loop types operator args body place)
 unfolding Placed
 while_good types operator args body place known ends ready all good = record {
   marks = header_mark ∷ (inner_mark ∷ (good.marks ++ exit_mark ∷ []));
@@ -488,8 +488,8 @@ while_good types operator args body place known ends ready all good = record {
       let exit_placed = subst (λ (b : ℕ). Placed look b (exit_mark ∷ [])) to_exit body_placed.1 in
       let header_at : HeaderAt (length types) look (place.block + 1) place.operator body place.defined turn.defined =
       record { start = ap (λ (m : Mark). m.start) placed.0; entry = λ variable. ap (λ (m : Mark). m.entry variable) placed.0 } in
-      while_holds (length types) look place.block (place.block + 2) exit (place.block + 2 + adds body) place.operator turn.operator body place.defined turn.defined
-      (operator_of types (with_phis place.defined place.operator phis) place.statement operator args) (turn.onto (left (Jump (place.block + 1)))) stretch last end
+      while_holds (length types) look place.block (place.block + 2) exit (place.block + 2 + weave_adds body) place.operator turn.operator body place.defined turn.defined
+      (operator_of types (with_phis place.defined place.operator phis) place.statement operator args) (turn.onto (just_left (Jump (place.block + 1)))) stretch last end
       ends at header_at
       (operator_good (length types) look (place.block + 1) (place.operator + length phis) types known (with_phis place.defined place.operator phis) place.statement
       operator args
@@ -499,8 +499,8 @@ while_good types operator args body place known ends ready all good = record {
       (λ variable. ap (λ (m : Mark). m.entry variable) inner_placed.0) (ap (λ (m : Mark). m.start) inner_placed.0)
       (λ variable. ap (λ (m : Mark). m.entry variable) exit_placed.0) (ap (λ (m : Mark). m.start) exit_placed.0)
       (omega arith) (omega arith)
-      (good.carries look body_placed.0 (left (Jump (place.block + 1))) exit turn.operator)
-      (follows_at (length types) look (place.block + (3 + adds body)) exit turn.operator (with_phis place.defined place.operator phis) stretch last end
+      (good.carries look body_placed.0 (just_left (Jump (place.block + 1))) exit turn.operator)
+      (follows_at (length types) look (place.block + (3 + weave_adds body)) exit turn.operator (with_phis place.defined place.operator phis) stretch last end
       (omega arith) later);
 }
   where
@@ -511,7 +511,7 @@ while_good types operator args body place known ends ready all good = record {
     turn = woven_all body (turn_of types body place)
 
     exit : ℕ
-    exit = place.block + 3 + adds body
+    exit = place.block + 3 + weave_adds body
 
     header_mark : Mark
     header_mark = record { entry = either_of phis place.defined turn.defined place.defined; start = place.operator }
@@ -525,7 +525,7 @@ while_good types operator args body place known ends ready all good = record {
     to_inner : place.block + 1 + 1 ≡ place.block + 2
     to_inner = omega arith
 
-    to_exit : place.block + 2 + 1 + length good.marks ≡ place.block + 3 + adds body
+    to_exit : place.block + 2 + 1 + length good.marks ≡ place.block + 3 + weave_adds body
     to_exit = omega (arith, good.many)
 
 while_flows : (types : List VarType) (operator : OpSpec) (args : List ℕ) (body : List Weave) (checks : List Check)
@@ -537,7 +537,7 @@ while_flows types operator args body checks flows = record {
       (with_phis place.defined place.operator (phis_at types body place)) (assigned_in body)
       (let g = (flows.ends (turn_of types body place)).grows in omega (arith, g)) (while_inside (length types) place.operator body place.defined);
   passes = λ place known known_after is ready.
-      let parts = then_known (decided_by operator args) (looped_check checks) known known_after is in
+      let parts = then_known (decided_by operator args) (looped checks) known known_after is in
       let decided = decides_known operator args known parts.middle parts.first in
       let turns = turns_known checks parts.middle known_after parts.second in
       let inside_ready = subst (λ (k : Known). Ready (length types) k (turn_of types body place).defined) decided.is
@@ -545,7 +545,7 @@ while_flows types operator args body checks flows = record {
       subst (λ (k : Known). Ready (length types) k (turn_of types body place).defined) turns.is
       (beside_ready (length types) parts.middle turns.last (turn_of types body place).defined inside_ready);
   good = λ place known known_after is ready.
-      let parts = then_known (decided_by operator args) (looped_check checks) known known_after is in
+      let parts = then_known (decided_by operator args) (looped checks) known known_after is in
       let decided = decides_known operator args known parts.middle parts.first in
       let turns = turns_known checks parts.middle known_after parts.second in
       let inside_ready = subst (λ (k : Known). Ready (length types) k (turn_of types body place).defined) decided.is
@@ -553,13 +553,13 @@ while_flows types operator args body checks flows = record {
       while_good types operator args body place known (flows.ends (turn_of types body place)) (looped_ready place known ready) decided.args_known
       (flows.good (turn_of types body place) parts.middle turns.last turns.first inside_ready);
   sizes = λ known known_after is.
-      let parts = then_known (decided_by operator args) (looped_check checks) known known_after is in
+      let parts = then_known (decided_by operator args) (looped checks) known known_after is in
       let decided = decides_known operator args known parts.middle parts.first in
       let turns = turns_known checks parts.middle known_after parts.second in
       same_size (sym turns.is) ∙ (flows.sizes parts.middle turns.last turns.first ∙ same_size (sym decided.is));
 }
   where
-    looped_ready : (place : Place) (known : Known) → Ready (length types) known place.defined → Ready (length types) known (turn_of types body place).defined
+    looped_ready : (place : WeavePlace) (known : Known) → Ready (length types) known place.defined → Ready (length types) known (turn_of types body place).defined
     looped_ready place known ready = record {
       many = ready.many;
       each = λ variable is. phis_stay place.defined place.operator (phis_at types body place) variable (ready.each variable is);

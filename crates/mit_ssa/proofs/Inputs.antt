@@ -4,7 +4,7 @@ use Rattle.std.proofs.lemmas.List.{append-nil, drop_all, drop_more}
 use Rattle.mit_ops.specs.Routes.{route_to}
 use Rattle.mit_ops.specs.declared.kinds.OpSpec.{OpSpec}
 use Rattle.mit_ops.specs.declared.types.VarType.{VarType}
-use Rattle.mit_ssa.specs.Weaving.{put_in, putting, variables_of}
+use Rattle.mit_ssa.specs.Weaving.{defined_variables, put_in, putting}
 use Rattle.mit_ssa.specs.Woven.{Defined, defining, definition_of, inputs_from, width_of, with_phis}
 use Rattle.mit_ssa.specs.declared.block.Source.{Source}
 use Rattle.mit_ssa.specs.declared.defined.Definition.{Definition}
@@ -28,18 +28,18 @@ inputs_all types defined operator args input so_far whole past given =
     sym (append-nil so_far) ∙ (ap (λ list. so_far ++ inputs_from types defined operator input list) (sym (drop_all input args past)) ∙ given)
 
 pub phis_more : (now new whole : Defined) (number index : ℕ) (phis : List Definition) (none : Definition) → index < length phis
-    → new ≡ defining now (get_or phis index none).variable number → with_phis now number (variables_of (drop index phis)) ≡ whole
-    → with_phis new (number + 1) (variables_of (drop (index + 1) phis)) ≡ whole
+    → new ≡ defining now (get_or phis index none).variable number → with_phis now number (defined_variables (drop index phis)) ≡ whole
+    → with_phis new (number + 1) (defined_variables (drop (index + 1) phis)) ≡ whole
 unfolding with_phis
 phis_more now new whole number index phis none within is given =
     let next : number + 1 ≡ suc number = omega arith in
-    (λ i. with_phis (is i) (next i) (variables_of (drop (index + 1) phis)))
-    ∙ (ap (λ list. with_phis now number (variables_of list)) (sym (drop_more phis index none within)) ∙ given)
+    (λ i. with_phis (is i) (next i) (defined_variables (drop (index + 1) phis)))
+    ∙ (ap (λ list. with_phis now number (defined_variables list)) (sym (drop_more phis index none within)) ∙ given)
 
 pub phis_all : (now whole : Defined) (number index : ℕ) (phis : List Definition) → length phis ≤ index
-    → with_phis now number (variables_of (drop index phis)) ≡ whole → now ≡ whole
+    → with_phis now number (defined_variables (drop index phis)) ≡ whole → now ≡ whole
 unfolding with_phis
-phis_all now whole number index phis past given = ap (λ list. with_phis now number (variables_of list)) (sym (drop_all index phis past)) ∙ given
+phis_all now whole number index phis past given = ap (λ list. with_phis now number (defined_variables list)) (sym (drop_all index phis past)) ∙ given
 
 pub put_in_more : (now new whole : Defined) (index : ℕ) (kept : List Definition) (none : Definition) → index < length kept
     → new ≡ putting now (get_or kept index none).variable (get_or kept index none).value → put_in now (drop index kept) ≡ whole

@@ -8,16 +8,16 @@ use Rattle.mit_script.specs.declared.tree.Stmt.{Stmt, roll-Stmt}
 use Rattle.mit_script.specs.declared.tree.Stmt.TheFolds.{fold-roll-Stmt, ind-Stmt, map-Stmt}
 use Rattle.mit_script.specs.declared.tree.Stmt.TheOpen.{Stmt-F}
 use Rattle.mit_script.specs.declared.tree.Stmt.TheOpen as layer
-use Rattle.mit_ssa.specs.Woven.{Defined, Place, Weave, after, assigned_in, join_phis, loop_phis, on_both, weave_of, weave_step, with_phis, woven_all}
+use Rattle.mit_ssa.specs.Woven.{Defined, Weave, WeavePlace, assigned_in, join_phis, loop_phis, on_both, place_after, weave_of, weave_step, with_phis, woven_all}
 use Rattle.mit_ssa.proofs.DefinitionsEnds.{both_same}
 use Rattle.mit_ssa.proofs.DefinitionsPhis.{filter_among, phis_keep}
 use Rattle.mit_ssa.proofs.DefinitionsWoven.{beside_of, inside_of}
 
 abbrev Keeps : Weave → Type 0
-Keeps weave = (place : Place) (variable : ℕ) → weave.assigns variable ≡ false → (weave.weave place).defined variable ≡ place.defined variable
+Keeps weave = (place : WeavePlace) (variable : ℕ) → weave.assigns variable ≡ false → (weave.weave place).defined variable ≡ place.defined variable
 
 abbrev KeepAll : List Weave → Type 0
-KeepAll weaves = (place : Place) (variable : ℕ) → assigned_in weaves variable ≡ false → (woven_all weaves place).defined variable ≡ place.defined variable
+KeepAll weaves = (place : WeavePlace) (variable : ℕ) → assigned_in weaves variable ≡ false → (woven_all weaves place).defined variable ≡ place.defined variable
 
 none_keep : KeepAll []
 unfolding woven_all
@@ -27,7 +27,7 @@ more_keep : (weave : Weave) (weaves : List Weave) → Keeps weave → KeepAll we
 unfolding woven_all
 more_keep weave weaves first later place variable never =
     let parts = or_parts (weave.assigns variable) (assigned_in weaves variable) never in
-    later (after place weave (weave.weave place)) variable parts.1 ∙ first place variable parts.0
+    later (place_after place weave (weave.weave place)) variable parts.1 ∙ first place variable parts.0
 
 -- what has no phi after an `if`
 if_keeps : (variables number : ℕ) (on_true on_false : List Weave) (one two : Defined) (variable : ℕ) (was : Option ℕ)
@@ -92,7 +92,7 @@ layer_keeps types (layer.While operator args body) =
 one_keeps : (types : List VarType) (stmt : Stmt) → DoesKeep types stmt
 one_keeps types = ind-Stmt (DoesKeep types) (λ one inner same. subst (λ some. DoesKeep types (roll-Stmt some)) same (layer_keeps types inner))
 
-pub block_keeps : (types : List VarType) (block : List Stmt) (place : Place) (variable : ℕ) → assigned_in (map (weave_of types) block) variable ≡ false
+pub block_keeps : (types : List VarType) (block : List Stmt) (place : WeavePlace) (variable : ℕ) → assigned_in (map (weave_of types) block) variable ≡ false
     → (woven_all (map (weave_of types) block) place).defined variable ≡ place.defined variable
 block_keeps types [] = none_keep
 block_keeps types (first ∷ later) = more_keep (weave_of types first) (map (weave_of types) later) (one_keeps types first) (block_keeps types later)

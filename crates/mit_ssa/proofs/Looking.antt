@@ -4,7 +4,7 @@ use Rattle.std.proofs.lemmas.Bool.Decides.{eqb_tells}
 use Rattle.std.proofs.lemmas.List.{get_or-set_same, get_or-set_other}
 use Rattle.std.proofs.lemmas.Option.{unwrap_or-slice_get}
 use Rattle.std.proofs.Math.Seq.{get_or-append_seam}
-use Rattle.mit_ssa.specs.Weaving.{looked, marked, putting}
+use Rattle.mit_ssa.specs.Weaving.{has_mark, looked, putting}
 
 -- ---- what stands at a place of a longer list
 
@@ -72,7 +72,7 @@ or_assoc true b c = refl
 or_assoc false b c = refl
 
 -- one more mark
-pub marked_push : (xs : List ℕ) (variable other : ℕ) → marked (xs ++ variable ∷ []) other ≡ (marked xs other || eqb other variable)
+pub marked_push : (xs : List ℕ) (variable other : ℕ) → has_mark (xs ++ variable ∷ []) other ≡ (has_mark xs other || eqb other variable)
 marked_push [] variable other = sym (or_false (eqb other variable))
 marked_push (x ∷ xs) variable other =
-    ap (λ m. eqb other x || m) (marked_push xs variable other) ∙ sym (or_assoc (eqb other x) (marked xs other) (eqb other variable))
+    ap (λ m. eqb other x || m) (marked_push xs variable other) ∙ sym (or_assoc (eqb other x) (has_mark xs other) (eqb other variable))

@@ -6,7 +6,7 @@ use Rattle.mit_plan.specs.Plans.{PlanOf}
 use Rattle.mit_plan.specs.declared.plan.Edge.{Edge}
 use Rattle.mit_plan.specs.declared.plan.TheConstants.{MAX_EDGES, MAX_OPS}
 use Rattle.mit_ssa.specs.Numbering.{AddsBlock, AddsOperator, AddsOperators}
-use Rattle.mit_ssa.specs.PlanFor.{IsLarge, TellsLarge, blocks_from, edges_from, edges_in, operators_of, ops_from, ops_in, plan_of_blocks}
+use Rattle.mit_ssa.specs.PlanFor.{IsLarge, TellsLarge, blocks_from, edges_in, operator_edges, operators_of, ops_from, ops_in, plan_of_blocks}
 use Rattle.mit_ssa.specs.Weaving.{IfLarge}
 use Rattle.mit_ssa.specs.declared.block.Block.{Block}
 use Rattle.mit_ssa.specs.declared.block.Operator.{Operator}
@@ -67,15 +67,15 @@ ops_in-push block index number (one ∷ operators) operator is =
     (ops_in-push block (suc index) number operators operator (omega (arith, is)))
 
 pub edges_from-append : (number next : ℕ) (xs ys : List Operator) → number + length xs ≡ next
-    → edges_from number (xs ++ ys) ≡ edges_from number xs ++ edges_from next ys
-unfolding edges_from
-edges_from-append number next [] ys is = let e : number ≡ next = omega (arith, is) in ap (λ n. edges_from n ys) e
+    → operator_edges number (xs ++ ys) ≡ operator_edges number xs ++ operator_edges next ys
+unfolding operator_edges
+edges_from-append number next [] ys is = let e : number ≡ next = omega (arith, is) in ap (λ n. operator_edges n ys) e
 edges_from-append number next (x ∷ xs) ys is =
     ap (λ list. edges_in number 0 x.inputs ++ list) (edges_from-append (suc number) next xs ys (omega (arith, is)))
-    ∙ sym (append_assoc (edges_in number 0 x.inputs) (edges_from (suc number) xs) (edges_from next ys))
+    ∙ sym (append_assoc (edges_in number 0 x.inputs) (operator_edges (suc number) xs) (operator_edges next ys))
 
-pub edges_from-one : (number : ℕ) (operator : Operator) → edges_from number (operator ∷ []) ≡ edges_in number 0 operator.inputs
-unfolding edges_from
+pub edges_from-one : (number : ℕ) (operator : Operator) → operator_edges number (operator ∷ []) ≡ edges_in number 0 operator.inputs
+unfolding operator_edges
 edges_from-one number operator = append-nil (edges_in number 0 operator.inputs)
 
 pub blocks_from-push : (first next : ℕ) (blocks : List Block) (block : Block) → first + size blocks ≡ next
@@ -117,26 +117,26 @@ large_more few many NoMemory less large = large
 
 -- an operator stops, and so do all
 pub operators_stop : (first : ℕ) (done rest all : List Operator) (operator : Operator) (edges now : List Edge) (stop : PlanStop)
-    → now ≡ edges ++ edges_from first done → done ++ operator ∷ rest ≡ all
-    → IfLarge (MAX_EDGES < length now + length operator.inputs) stop → IfLarge (MAX_EDGES < length edges + length (edges_from first all)) stop
-unfolding edges_from
+    → now ≡ edges ++ operator_edges first done → done ++ operator ∷ rest ≡ all
+    → IfLarge (MAX_EDGES < length now + length operator.inputs) stop → IfLarge (MAX_EDGES < length edges + length (operator_edges first all)) stop
+unfolding operator_edges
 operators_stop first done rest all operator edges now stop so_far whole stops =
     let a = ap length so_far in
-    let b = length-append edges (edges_from first done) in
-    let c = ap (λ list. length (edges_from first list)) whole in
+    let b = length-append edges (operator_edges first done) in
+    let c = ap (λ list. length (operator_edges first list)) whole in
     let d = ap length (edges_from-append first (first + length done) done (operator ∷ rest) refl) in
-    let e = length-append (edges_from first done) (edges_from (first + length done) (operator ∷ rest)) in
-    let f = length-append (edges_in (first + length done) 0 operator.inputs) (edges_from (suc (first + length done)) rest) in
+    let e = length-append (operator_edges first done) (operator_edges (first + length done) (operator ∷ rest)) in
+    let f = length-append (edges_in (first + length done) 0 operator.inputs) (operator_edges (suc (first + length done)) rest) in
     let g = length-edges_in (first + length done) 0 operator.inputs in
     large_more _ _ stop (omega (arith, a, b, c, d, e, f, g)) stops
 
 -- one operator more
 pub operators_more : (block first : ℕ) (done : List Operator) (operator : Operator) (old now new : Lists) (index : ℕ)
     → first ≡ length old.ops.items → index ≡ length done
-    → now.blocks.items ≡ old.blocks.items → now.ops.items ≡ old.ops.items ++ ops_in block 0 done → now.edges.items ≡ old.edges.items ++ edges_from first done
+    → now.blocks.items ≡ old.blocks.items → now.ops.items ≡ old.ops.items ++ ops_in block 0 done → now.edges.items ≡ old.edges.items ++ operator_edges first done
     → AddsOperator block index operator now new
     → (new.blocks.items ≡ old.blocks.items) × (new.ops.items ≡ old.ops.items ++ ops_in block 0 (done ++ operator ∷ []))
-    × (new.edges.items ≡ old.edges.items ++ edges_from first (done ++ operator ∷ []))
+    × (new.edges.items ≡ old.edges.items ++ operator_edges first (done ++ operator ∷ []))
 operators_more block first done operator old now new index is_first is_index blocks ops edges added =
     let number : length now.ops.items ≡ first + length done =
     let a = ap length ops in let b = length-append old.ops.items (ops_in block 0 done) in let c = length-ops_in block 0 done in
@@ -145,9 +145,9 @@ operators_more block first done operator old now new index is_first is_index blo
       added.ops ∙ (ap (λ list. list ++ record { block = block; index = index; statement = operator.statement; spec = operator.spec; phi = operator.phi } ∷ []) ops
           ∙ (append_assoc old.ops.items (ops_in block 0 done) _ ∙ ap (λ list. old.ops.items ++ list) (sym (ops_in-push block 0 index done operator (omega (arith, is_index)))))),
       added.edges ∙ ((λ i. edges i ++ edges_in (number i) 0 operator.inputs)
-          ∙ (append_assoc old.edges.items (edges_from first done) (edges_in (first + length done) 0 operator.inputs)
+          ∙ (append_assoc old.edges.items (operator_edges first done) (edges_in (first + length done) 0 operator.inputs)
           ∙ ap (λ list. old.edges.items ++ list)
-          (ap (λ list. edges_from first done ++ list) (sym (edges_from-one (first + length done) operator))
+          (ap (λ list. operator_edges first done ++ list) (sym (edges_from-one (first + length done) operator))
           ∙ sym (edges_from-append first (first + length done) done (operator ∷ []) refl)))),
     )
 
@@ -157,7 +157,7 @@ operators_more block first done operator old now new index is_first is_index blo
 pub record Numbers (done : List Block) (lists : Lists) : Type 0 where
   pub blocks : lists.blocks.items ≡ blocks_from 0 done
   pub ops : lists.ops.items ≡ ops_from 0 done
-  pub edges : lists.edges.items ≡ edges_from 0 (operators_of done)
+  pub edges : lists.edges.items ≡ operator_edges 0 (operators_of done)
   pub few_ops : length lists.ops.items ≤ MAX_OPS
   pub few : length lists.edges.items ≤ MAX_EDGES
 
@@ -178,9 +178,9 @@ blocks_more done block now new numbers added =
           ∙ sym (blocks_from-push 0 (length now.ops.items) done block (omega (arith, number, size_of))));
       ops = added.ops ∙ (ap (λ list. list ++ ops_in (length now.blocks.items) 0 block.operators) numbers.ops
           ∙ sym (ops_from-push 0 (length now.blocks.items) done block (omega (arith, many))));
-      edges = added.edges ∙ (ap (λ list. list ++ edges_from (length now.ops.items) block.operators) numbers.edges
+      edges = added.edges ∙ (ap (λ list. list ++ operator_edges (length now.ops.items) block.operators) numbers.edges
           ∙ (sym (edges_from-append 0 (length now.ops.items) (operators_of done) block.operators (omega (arith, number)))
-          ∙ ap (λ list. edges_from 0 list) (sym (operators_more_of done block))));
+          ∙ ap (λ list. operator_edges 0 list) (sym (operators_more_of done block))));
       few_ops = added.few_ops;
       few = added.few;
     }
@@ -188,7 +188,7 @@ blocks_more done block now new numbers added =
 -- a block stops, since the plan is too large
 pub blocks_stop : (done rest all : List Block) (block : Block) (lists : Lists) (stop : PlanStop) → Numbers done lists → done ++ block ∷ rest ≡ all
     → IfLarge ((MAX_OPS < length lists.ops.items + length block.operators)
-    ⊎ (MAX_EDGES < length lists.edges.items + length (edges_from (length lists.ops.items) block.operators))) stop
+    ⊎ (MAX_EDGES < length lists.edges.items + length (operator_edges (length lists.ops.items) block.operators))) stop
     → TellsLarge (plan_of_blocks all) stop
 blocks_stop done rest all block lists NoMemory numbers whole stops = stops
 blocks_stop done rest all block lists TooLarge numbers whole stops = by_cause stops
@@ -203,23 +203,23 @@ blocks_stop done rest all block lists TooLarge numbers whole stops = by_cause st
     operators_are : operators_of all ≡ operators_of done ++ (block.operators ++ operators_of rest)
     operators_are = ap operators_of (sym whole) ∙ flat_map-append (λ (one : Block). one.operators) done (block ∷ rest)
 
-    edges_are : length (edges_from 0 (operators_of all)) ≡ length lists.edges.items + length (edges_from (length lists.ops.items) (block.operators ++ operators_of rest))
+    edges_are : length (operator_edges 0 (operators_of all)) ≡ length lists.edges.items + length (operator_edges (length lists.ops.items) (block.operators ++ operators_of rest))
     edges_are =
-        ap (λ list. length (edges_from 0 list)) operators_are
+        ap (λ list. length (operator_edges 0 list)) operators_are
         ∙ (ap length (edges_from-append 0 (length lists.ops.items) (operators_of done) (block.operators ++ operators_of rest)
         (let a = number_of done lists numbers in omega (arith, a)))
-        ∙ (length-append (edges_from 0 (operators_of done)) _ ∙ ap (λ (list : List Edge). length list + length (edges_from (length lists.ops.items) (block.operators ++ operators_of rest))) (sym numbers.edges)))
+        ∙ (length-append (operator_edges 0 (operators_of done)) _ ∙ ap (λ (list : List Edge). length list + length (operator_edges (length lists.ops.items) (block.operators ++ operators_of rest))) (sym numbers.edges)))
 
     by_cause : (MAX_OPS < length lists.ops.items + length block.operators)
-        ⊎ (MAX_EDGES < length lists.edges.items + length (edges_from (length lists.ops.items) block.operators)) → TellsLarge (plan_of_blocks all) TooLarge
+        ⊎ (MAX_EDGES < length lists.edges.items + length (operator_edges (length lists.ops.items) block.operators)) → TellsLarge (plan_of_blocks all) TooLarge
     by_cause (inl many) = inl (omega (arith, many, ops_are))
     by_cause (inr many) =
         let a = ap length (edges_from-append (length lists.ops.items) (length lists.ops.items + length block.operators) block.operators (operators_of rest) refl) in
-        let b = length-append (edges_from (length lists.ops.items) block.operators) (edges_from (length lists.ops.items + length block.operators) (operators_of rest)) in
+        let b = length-append (operator_edges (length lists.ops.items) block.operators) (operator_edges (length lists.ops.items + length block.operators) (operators_of rest)) in
         inr (omega (arith, many, edges_are, a, b))
 
 pub numbers_none : (lists : Lists) → lists.blocks.items ≡ [] → lists.ops.items ≡ [] → lists.edges.items ≡ [] → Numbers [] lists
-unfolding blocks_from ops_from edges_from
+unfolding blocks_from ops_from operator_edges
 numbers_none lists blocks ops edges = record {
   blocks = blocks;
   ops = ops;
@@ -247,7 +247,7 @@ pub block_added : (block : Block) (old middle new : Lists) (number : ℕ) (opera
 block_added block old middle new number operators is_number are blocks ops edges few added = record {
   blocks = added.blocks ∙ blocks;
   ops = added.ops ∙ (λ i. ops i ++ ops_in (is_number i) 0 (are i));
-  edges = added.edges ∙ (λ i. edges i ++ edges_from (length (ops i)) (are i));
+  edges = added.edges ∙ (λ i. edges i ++ operator_edges (length (ops i)) (are i));
   few_ops =
       let a = ap length added.ops in let b = length-append middle.ops.items (ops_in number 0 operators) in
       let c = length-ops_in number 0 operators in let d = ap length ops in

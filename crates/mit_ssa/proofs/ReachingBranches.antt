@@ -8,11 +8,11 @@ use Rattle.mit_ops.specs.declared.leave.Leave.TheVariants.{Jump, Branch}
 use Rattle.mit_ops.specs.declared.types.VarType.{VarType}
 use Rattle.mit_script.specs.Accepted.{Known, is_assigned}
 use Rattle.mit_script.specs.Trees.{is_scalar}
-use Rattle.mit_cfg.specs.Blocks.{Stretch as CodeStretch, all_of as all_code, condition_alone, step_of}
+use Rattle.mit_cfg.specs.Blocks.{Stretch, all_of, condition_alone, step_of}
 use Rattle.mit_cfg.specs.declared.block.Block.{Block as Code}
 use Rattle.mit_cfg.specs.declared.block.Step.{Step}
 use Rattle.mit_ssa.specs.Reaching.{Reaching}
-use Rattle.mit_ssa.specs.Woven.{Defined, Place, Stretch, Weave, Woven, adds, all_of, assigned_in, branched, join_phis, left, on_both, operator_of, phi_of, phis_of, preceded, with_phis, woven_all}
+use Rattle.mit_ssa.specs.Woven.{Defined, Weave, WeavePlace, Woven, WovenStretch, assigned_in, join_phis, just_left, on_both, operator_of, operators_first, phi_of, phis_of, stretch_blocks, weave_adds, with_phis, woven_all, woven_branch}
 use Rattle.mit_ssa.specs.declared.block.Block.{Block}
 use Rattle.mit_ssa.specs.declared.block.Operator.{Operator}
 use Rattle.mit_ssa.proofs.DefinitionsEnds.{Ends, both_parts}
@@ -31,7 +31,7 @@ use Rattle.mit_ssa.proofs.StructureEach.{each_front}
 -- ---- parts of an `if` and of a loop
 
 -- nothing more in the current block of steps, which is left so
-abbrev pub code_left : Leave → CodeStretch
+abbrev pub code_left : Leave → Stretch
 code_left leave = record { first = record { steps = []; leave = leave }; later = [] }
 
 -- a condition ends a block
@@ -54,12 +54,12 @@ condition_ends variables known block first index on_true on_false operator step 
 }
 
 -- a branch, or a body, from its first block on: it ends with a jump
-pub branch_holds : (variables : ℕ) (known : Reaching) (block at_end last number most target : ℕ) (env end : Defined) (stretch : Stretch) (code : CodeStretch)
+pub branch_holds : (variables : ℕ) (known : Reaching) (block at_end last number most target : ℕ) (env end : Defined) (stretch : WovenStretch) (code : Stretch)
     → at_end + 1 ≡ last → IsEntry variables known block (only_of env) → IsNamed variables known env
-    → (GoesOn variables known at_end most end (left (Jump target)) (code_left (Jump target)) last most
+    → (GoesOn variables known at_end most end (just_left (Jump target)) (code_left (Jump target)) last most
     → GoesOn variables known block number env stretch code last most)
     → ((first index : ℕ) → IsReachOf variables known at_end first index end → Brings variables known at_end first index target)
-    → CodeBlocks variables known block number (all_of stretch) (all_code code) last most
+    → CodeBlocks variables known block number (stretch_blocks stretch) (all_of code) last most
 branch_holds variables known block at_end last number most target env end stretch code next entry named through brings =
     code_begins variables known block number 0 [] stretch code last most refl (named_only variables known block env entry named) tt
     (through (λ first index same reached. code_leaves variables known at_end first index target last most next same (brings first index reached))
@@ -114,10 +114,10 @@ brings_two variables known block other join number middle most on_true on_false 
 
 -- the join, with its phis, and what comes after it
 join_holds : (variables : ℕ) (known : Reaching) (block other join number middle most : ℕ) (on_true on_false : List Weave) (env one two : Defined)
-    (stretch : Stretch) (code : CodeStretch) (last top : ℕ) → IfAt variables known block other join number middle most on_true on_false env one two
+    (stretch : WovenStretch) (code : Stretch) (last top : ℕ) → IfAt variables known block other join number middle most on_true on_false env one two
     → GoesOn variables known join (most + length (join_phis variables on_true on_false one two))
     (with_phis (on_both one two) most (join_phis variables on_true on_false one two)) stretch code last top
-    → CodeBlocks variables known join most (all_of (preceded (phis_of one two (join_phis variables on_true on_false one two)) stretch)) (all_code code) last top
+    → CodeBlocks variables known join most (stretch_blocks (operators_first (phis_of one two (join_phis variables on_true on_false one two)) stretch)) (all_of code) last top
 join_holds variables known block other join number middle most on_true on_false env one two stretch code last top at later =
     code_begins variables known join most (length phis) (phis_of one two phis) stretch code last top (length-map phis (phi_of one two))
     (meet_named variables known join most phis one two (on_both one two) meet at.one_named at.two_named (both_named variables known one two at.one_named))
@@ -133,23 +133,23 @@ join_holds variables known block other join number middle most on_true on_false 
 -- ---- the whole
 
 if_holds : (variables : ℕ) (known : Reaching) (block other join true_last false_last number middle most : ℕ) (on_true on_false : List Weave) (env one two : Defined)
-    (operator : Operator) (step : Step) (first_stretch second_stretch stretch : Stretch) (first_code second_code code : CodeStretch) (last top first index : ℕ)
+    (operator : Operator) (step : Step) (first_stretch second_stretch stretch : WovenStretch) (first_code second_code code : Stretch) (last top first index : ℕ)
     → IfAt variables known block other join number middle most on_true on_false env one two
     → step.target ≡ None → is_scalar step.op ≡ true → known.defines number ≡ None → first + index ≡ number
     → GoodStep known block first index operator step → IsReachOf variables known block first index env
     → true_last + 1 ≡ other → false_last + 1 ≡ join
-    → (GoesOn variables known true_last middle one (left (Jump join)) (code_left (Jump join)) other middle
+    → (GoesOn variables known true_last middle one (just_left (Jump join)) (code_left (Jump join)) other middle
     → GoesOn variables known (block + 1) (number + 1) env first_stretch first_code other middle)
-    → (GoesOn variables known false_last most two (left (Jump join)) (code_left (Jump join)) join most
+    → (GoesOn variables known false_last most two (just_left (Jump join)) (code_left (Jump join)) join most
     → GoesOn variables known other middle env second_stretch second_code join most)
     → GoesOn variables known join (most + length (join_phis variables on_true on_false one two))
     (with_phis (on_both one two) most (join_phis variables on_true on_false one two)) stretch code last top
     → CodeFrom variables known block first index (record {
       first = record { operators = operator ∷ []; leave = Branch (block + 1) other };
-      later = (all_of first_stretch ++ all_of second_stretch) ++ all_of (preceded (phis_of one two (join_phis variables on_true on_false one two)) stretch);
+      later = (stretch_blocks first_stretch ++ stretch_blocks second_stretch) ++ stretch_blocks (operators_first (phis_of one two (join_phis variables on_true on_false one two)) stretch);
     }) (record {
       first = record { steps = step ∷ []; leave = Branch (block + 1) other };
-      later = (all_code first_code ++ all_code second_code) ++ all_code code;
+      later = (all_of first_code ++ all_of second_code) ++ all_of code;
     }) last top
 if_holds variables known block other join true_last false_last number middle most on_true on_false env one two operator step first_stretch second_stretch stretch
     first_code second_code code last top first index at target scalar defines same good reached true_ends false_ends through_one through_two later =
@@ -157,12 +157,12 @@ if_holds variables known block other join true_last false_last number middle mos
     condition_ends variables known block first index (block + 1) other operator step _ _ last top good target scalar
     (brings_only variables known block first (suc index) (block + 1) env at.true_entry passed)
     (brings_only variables known block first (suc index) other env at.false_entry passed)
-    (subst (λ (n : ℕ). CodeBlocks variables known (block + 1) n ((all_of first_stretch ++ all_of second_stretch) ++ all_of (preceded (phis_of one two (join_phis variables on_true on_false one two)) stretch))
-    ((all_code first_code ++ all_code second_code) ++ all_code code) last top) e
-    (code_append variables known (block + 1) (number + 1) (all_of first_stretch ++ all_of second_stretch)
-    (all_of (preceded (phis_of one two (join_phis variables on_true on_false one two)) stretch))
-    (all_code first_code ++ all_code second_code) (all_code code) join most last top
-    (code_append variables known (block + 1) (number + 1) (all_of first_stretch) (all_of second_stretch) (all_code first_code) (all_code second_code) other middle join most
+    (subst (λ (n : ℕ). CodeBlocks variables known (block + 1) n ((stretch_blocks first_stretch ++ stretch_blocks second_stretch) ++ stretch_blocks (operators_first (phis_of one two (join_phis variables on_true on_false one two)) stretch))
+    ((all_of first_code ++ all_of second_code) ++ all_of code) last top) e
+    (code_append variables known (block + 1) (number + 1) (stretch_blocks first_stretch ++ stretch_blocks second_stretch)
+    (stretch_blocks (operators_first (phis_of one two (join_phis variables on_true on_false one two)) stretch))
+    (all_of first_code ++ all_of second_code) (all_of code) join most last top
+    (code_append variables known (block + 1) (number + 1) (stretch_blocks first_stretch) (stretch_blocks second_stretch) (all_of first_code) (all_of second_code) other middle join most
     (branch_holds variables known (block + 1) true_last other (number + 1) middle join env one first_stretch first_code true_ends at.true_entry at.named through_one
     (brings_one variables known block other join number middle most on_true on_false env one two at true_last))
     (branch_holds variables known other false_last join middle most join env two second_stretch second_code false_ends at.false_entry at.named through_two
@@ -173,22 +173,22 @@ if_holds variables known block other join true_last false_last number middle mos
     passed variable below = reach_passing known block first index variable (ap known.defines same ∙ defines) ∙ reached variable below
 
 -- an `if` of steps, whose branches are cut so
-abbrev pub code_branched : ℕ → OpSpec → List ℕ → ℕ → ℕ → ℕ → (CodeStretch → CodeStretch) → (CodeStretch → CodeStretch) → CodeStretch → CodeStretch
+abbrev pub code_branched : ℕ → OpSpec → List ℕ → ℕ → ℕ → ℕ → (Stretch → Stretch) → (Stretch → Stretch) → Stretch → Stretch
 code_branched statement operator args block other join on_true on_false code = record {
   first = condition_alone statement operator args (block + 1) other;
-  later = all_code (on_true (code_left (Jump join))) ++ all_code (on_false (code_left (Jump join))) ++ all_code code;
+  later = all_of (on_true (code_left (Jump join))) ++ all_of (on_false (code_left (Jump join))) ++ all_of code;
 }
 
-pub if_goes : (types : List VarType) (operator : OpSpec) (args : List ℕ) (on_true on_false : List Weave) (place : Place) (knows : Known) (true_code false_code : CodeStretch → CodeStretch)
+pub if_goes : (types : List VarType) (operator : OpSpec) (args : List ℕ) (on_true on_false : List Weave) (place : WeavePlace) (knows : Known) (true_code false_code : Stretch → Stretch)
     → is_scalar operator ≡ true
     → Ends (length types) (place.operator + 1) (woven_all on_true (inside_of place)).operator place.defined (woven_all on_true (inside_of place)).defined (assigned_in on_true)
     → Ends (length types) (woven_all on_true (inside_of place)).operator (woven_all on_false (beside_of on_true place)).operator place.defined
     (woven_all on_false (beside_of on_true place)).defined (assigned_in on_false)
     → Ready (length types) knows place.defined → list_all (is_assigned knows.assigned) args ≡ true
-    → Goes (length types) (inside_of place) (adds on_true) (woven_all on_true (inside_of place)) true_code
-    → Goes (length types) (beside_of on_true place) (adds on_false) (woven_all on_false (beside_of on_true place)) false_code
-    → Goes (length types) place (3 + adds on_true + adds on_false) (branched types operator args on_true on_false place)
-    (code_branched place.statement operator args place.block (place.block + 2 + adds on_true) (place.block + 2 + adds on_true + 1 + adds on_false) true_code false_code)
+    → Goes (length types) (inside_of place) (weave_adds on_true) (woven_all on_true (inside_of place)) true_code
+    → Goes (length types) (beside_of on_true place) (weave_adds on_false) (woven_all on_false (beside_of on_true place)) false_code
+    → Goes (length types) place (3 + weave_adds on_true + weave_adds on_false) (woven_branch types operator args on_true on_false place)
+    (code_branched place.statement operator args place.block (place.block + 2 + weave_adds on_true) (place.block + 2 + weave_adds on_true + 1 + weave_adds on_false) true_code false_code)
 if_goes types operator args on_true on_false place knows true_code false_code scalar ends_one ends_two ready all first_goes second_goes = record {
   entries = only_of place.defined ∷ (first_goes.entries ++ only_of place.defined ∷ (second_goes.entries ++ join_entry ∷ []));
   many = (let e = length-append first_goes.entries (only_of place.defined ∷ (second_goes.entries ++ join_entry ∷ [])) in let f = length-append second_goes.entries (join_entry ∷ []) in
@@ -218,16 +218,16 @@ if_goes types operator args on_true on_false place knows true_code false_code sc
         one_named = first_goes.named known (true_targets known targets) named;
         two_named = second_goes.named known (false_targets known targets) named;
       } in
-      if_holds (length types) known place.block other join (place.block + 1 + adds on_true) (other + adds on_false) place.operator one.operator two.operator
+      if_holds (length types) known place.block other join (place.block + 1 + weave_adds on_true) (other + weave_adds on_false) place.operator one.operator two.operator
       on_true on_false place.defined one.defined two.defined (operator_of types place.defined place.statement operator args) (step_of place.statement None operator args)
-      (one.onto (left (Jump join))) (two.onto (left (Jump join))) stretch (true_code (code_left (Jump join))) (false_code (code_left (Jump join))) code last top first index
+      (one.onto (just_left (Jump join))) (two.onto (just_left (Jump join))) stretch (true_code (code_left (Jump join))) (false_code (code_left (Jump join))) code last top first index
       at refl scalar targets.0 same
       (step_good (length types) known place.block first index types knows place.defined place.statement None operator args reached ready all
       (ap known.defines same ∙ targets.0) (λ variable is_target. absurd cc))
       reached (omega arith) (omega arith)
-      (first_goes.carries known one_entries (true_targets known targets) named (left (Jump join)) (code_left (Jump join)) other one.operator)
-      (second_goes.carries known two_entries (false_targets known targets) named (left (Jump join)) (code_left (Jump join)) join two.operator)
-      (continues_at (length types) known (place.block + (3 + adds on_true + adds on_false)) join (two.operator + length phis)
+      (first_goes.carries known one_entries (true_targets known targets) named (just_left (Jump join)) (code_left (Jump join)) other one.operator)
+      (second_goes.carries known two_entries (false_targets known targets) named (just_left (Jump join)) (code_left (Jump join)) join two.operator)
+      (continues_at (length types) known (place.block + (3 + weave_adds on_true + weave_adds on_false)) join (two.operator + length phis)
       (with_phis (on_both one.defined two.defined) two.operator phis) stretch code last top (omega arith) later);
 }
   where
@@ -238,10 +238,10 @@ if_goes types operator args on_true on_false place knows true_code false_code sc
     two = woven_all on_false (beside_of on_true place)
 
     other : ℕ
-    other = place.block + 2 + adds on_true
+    other = place.block + 2 + weave_adds on_true
 
     join : ℕ
-    join = place.block + 2 + adds on_true + 1 + adds on_false
+    join = place.block + 2 + weave_adds on_true + 1 + weave_adds on_false
 
     phis : List ℕ
     phis = join_phis (length types) on_true on_false one.defined two.defined
@@ -249,10 +249,10 @@ if_goes types operator args on_true on_false place knows true_code false_code sc
     join_entry : Entry
     join_entry = either_of phis one.defined two.defined (on_both one.defined two.defined)
 
-    to_other : place.block + 1 + 1 + length first_goes.entries ≡ place.block + 2 + adds on_true
+    to_other : place.block + 1 + 1 + length first_goes.entries ≡ place.block + 2 + weave_adds on_true
     to_other = let e = first_goes.many in omega (arith, e)
 
-    to_join : place.block + 2 + adds on_true + 1 + length second_goes.entries ≡ place.block + 2 + adds on_true + 1 + adds on_false
+    to_join : place.block + 2 + weave_adds on_true + 1 + length second_goes.entries ≡ place.block + 2 + weave_adds on_true + 1 + weave_adds on_false
     to_join = let e = second_goes.many in omega (arith, e)
 
     All : Reaching → Type 0

@@ -7,11 +7,11 @@ use Rattle.mit_ops.specs.declared.leave.Leave.TheVariants.{Jump, Branch}
 use Rattle.mit_ops.specs.declared.types.VarType.{VarType}
 use Rattle.mit_script.specs.Accepted.{Known, is_assigned}
 use Rattle.mit_script.specs.Trees.{is_scalar}
-use Rattle.mit_cfg.specs.Blocks.{Stretch as CodeStretch, all_of as all_code, condition_alone, step_of}
+use Rattle.mit_cfg.specs.Blocks.{Stretch, all_of, condition_alone, step_of}
 use Rattle.mit_cfg.specs.declared.block.Block.{Block as Code}
 use Rattle.mit_cfg.specs.declared.block.Step.{Step}
 use Rattle.mit_ssa.specs.Reaching.{Reaching}
-use Rattle.mit_ssa.specs.Woven.{Defined, Place, Stretch, Weave, Woven, adds, all_of, assigned_in, left, loop_phis, looped, operator_of, phi_of, phis_of, with_phis, woven_all}
+use Rattle.mit_ssa.specs.Woven.{Defined, Weave, WeavePlace, Woven, WovenStretch, assigned_in, just_left, loop_phis, operator_of, phi_of, phis_of, stretch_blocks, weave_adds, with_phis, woven_all, woven_loop}
 use Rattle.mit_ssa.specs.declared.block.Block.{Block}
 use Rattle.mit_ssa.specs.declared.block.Operator.{Operator}
 use Rattle.mit_ssa.proofs.DefinitionsEnds.{Ends}
@@ -81,25 +81,25 @@ brings_back variables known header inner exit number most body env turn at block
 
 -- the header, with its phis and the condition
 header_holds : (variables : ℕ) (known : Reaching) (header inner exit number most : ℕ) (body : List Weave) (env turn : Defined) (operator : Operator) (step : Step)
-    (around stretch : Stretch) (around_code code : CodeStretch) (last top : ℕ) → WhileAt variables known header inner exit number most body env turn
+    (around stretch : WovenStretch) (around_code code : Stretch) (last top : ℕ) → WhileAt variables known header inner exit number most body env turn
     → step.target ≡ None → is_scalar step.op ≡ true
     → GoodStep known header number (length (loop_phis variables body env)) operator step → header + 1 ≡ inner
-    → CodeBlocks variables known inner (number + length (loop_phis variables body env) + 1) (all_of around ++ all_of stretch) (all_code around_code ++ all_code code) last top
+    → CodeBlocks variables known inner (number + length (loop_phis variables body env) + 1) (stretch_blocks around ++ stretch_blocks stretch) (all_of around_code ++ all_of code) last top
     → CodeBlocks variables known header number
-    (record { operators = phis_of env turn (loop_phis variables body env) ++ operator ∷ []; leave = Branch inner exit } ∷ (all_of around ++ all_of stretch))
-    (record { steps = step ∷ []; leave = Branch inner exit } ∷ (all_code around_code ++ all_code code)) last top
+    (record { operators = phis_of env turn (loop_phis variables body env) ++ operator ∷ []; leave = Branch inner exit } ∷ (stretch_blocks around ++ stretch_blocks stretch))
+    (record { steps = step ∷ []; leave = Branch inner exit } ∷ (all_of around_code ++ all_of code)) last top
 header_holds variables known header inner exit number most body env turn operator step around stretch around_code code last top at target scalar good next later =
     code_begins variables known header number (length phis) (phis_of env turn phis)
-    (record { first = record { operators = operator ∷ []; leave = Branch inner exit }; later = all_of around ++ all_of stretch })
-    (record { first = record { steps = step ∷ []; leave = Branch inner exit }; later = all_code around_code ++ all_code code }) last top (length-map phis (phi_of env turn))
+    (record { first = record { operators = operator ∷ []; leave = Branch inner exit }; later = stretch_blocks around ++ stretch_blocks stretch })
+    (record { first = record { steps = step ∷ []; leave = Branch inner exit }; later = all_of around_code ++ all_of code }) last top (length-map phis (phi_of env turn))
     (meet_named variables known header number phis env turn env meet at.named at.turn_named at.named)
     (meet_phis variables known header number phis env turn env meet)
-    (condition_ends variables known header number (length phis) inner exit operator step (all_of around ++ all_of stretch) (all_code around_code ++ all_code code) last top
+    (condition_ends variables known header number (length phis) inner exit operator step (stretch_blocks around ++ stretch_blocks stretch) (all_of around_code ++ all_of code) last top
     good target scalar
     (brings_only variables known header number (suc (length phis)) inner inside at.inner_entry passed)
     (brings_only variables known header number (suc (length phis)) exit inside at.exit_entry passed)
-    (subst (λ (b : ℕ). CodeBlocks variables known b (number + suc (length phis)) (all_of around ++ all_of stretch) (all_code around_code ++ all_code code) last top) (sym next)
-    (subst (λ (n : ℕ). CodeBlocks variables known inner n (all_of around ++ all_of stretch) (all_code around_code ++ all_code code) last top) further later)))
+    (subst (λ (b : ℕ). CodeBlocks variables known b (number + suc (length phis)) (stretch_blocks around ++ stretch_blocks stretch) (all_of around_code ++ all_of code) last top) (sym next)
+    (subst (λ (n : ℕ). CodeBlocks variables known inner n (stretch_blocks around ++ stretch_blocks stretch) (all_of around_code ++ all_of code) last top) further later)))
   where
     phis : List ℕ
     phis = loop_phis variables body env
@@ -118,18 +118,18 @@ header_holds variables known header inner exit number most body env turn operato
     further = omega arith
 
 while_holds : (variables : ℕ) (known : Reaching) (block header inner exit inner_last number most : ℕ) (body : List Weave) (env turn : Defined) (operator : Operator) (step : Step)
-    (around stretch : Stretch) (around_code code : CodeStretch) (last top first index : ℕ) → WhileAt variables known header inner exit number most body env turn
+    (around stretch : WovenStretch) (around_code code : Stretch) (last top first index : ℕ) → WhileAt variables known header inner exit number most body env turn
     → step.target ≡ None → is_scalar step.op ≡ true → first + index ≡ number → IsReachOf variables known block first index env
     → GoodStep known header number (length (loop_phis variables body env)) operator step → block + 1 ≡ header → header + 1 ≡ inner → inner_last + 1 ≡ exit
-    → (GoesOn variables known inner_last most turn (left (Jump header)) (code_left (Jump header)) exit most
+    → (GoesOn variables known inner_last most turn (just_left (Jump header)) (code_left (Jump header)) exit most
     → GoesOn variables known inner (number + length (loop_phis variables body env) + 1) (with_phis env number (loop_phis variables body env)) around around_code exit most)
     → GoesOn variables known exit most (with_phis env number (loop_phis variables body env)) stretch code last top
     → CodeFrom variables known block first index (record {
       first = record { operators = []; leave = Jump header };
-      later = record { operators = phis_of env turn (loop_phis variables body env) ++ operator ∷ []; leave = Branch inner exit } ∷ (all_of around ++ all_of stretch);
+      later = record { operators = phis_of env turn (loop_phis variables body env) ++ operator ∷ []; leave = Branch inner exit } ∷ (stretch_blocks around ++ stretch_blocks stretch);
     }) (record {
       first = record { steps = []; leave = Jump header };
-      later = record { steps = step ∷ []; leave = Branch inner exit } ∷ (all_code around_code ++ all_code code);
+      later = record { steps = step ∷ []; leave = Branch inner exit } ∷ (all_of around_code ++ all_of code);
     }) last top
 unfolding GoodSteps Each
 while_holds variables known block header inner exit inner_last number most body env turn operator step around stretch around_code code last top first index at target scalar
@@ -144,7 +144,7 @@ while_holds variables known block header inner exit inner_last number most body 
       later = subst (λ (b : ℕ). CodeBlocks variables known b (first + index) blocks codes last top) (sym to_header)
           (subst (λ (n : ℕ). CodeBlocks variables known header n blocks codes last top) (sym same)
           (header_holds variables known header inner exit number most body env turn operator step around stretch around_code code last top at target scalar good to_inner
-          (code_append variables known inner (number + length (loop_phis variables body env) + 1) (all_of around) (all_of stretch) (all_code around_code) (all_code code)
+          (code_append variables known inner (number + length (loop_phis variables body env) + 1) (stretch_blocks around) (stretch_blocks stretch) (all_of around_code) (all_of code)
           exit most last top
           (branch_holds variables known inner inner_last exit (number + length (loop_phis variables body env) + 1) most header inside turn around around_code to_exit
           at.inner_entry inside_named through (brings_back variables known header inner exit number most body env turn at inner_last))
@@ -159,26 +159,26 @@ while_holds variables known block header inner exit inner_last number most body 
     inside_named = phis_named variables known env number (loop_phis variables body env) at.targets at.named
 
     blocks : List Block
-    blocks = record { operators = phis_of env turn (loop_phis variables body env) ++ operator ∷ []; leave = Branch inner exit } ∷ (all_of around ++ all_of stretch)
+    blocks = record { operators = phis_of env turn (loop_phis variables body env) ++ operator ∷ []; leave = Branch inner exit } ∷ (stretch_blocks around ++ stretch_blocks stretch)
 
     codes : List Code
-    codes = record { steps = step ∷ []; leave = Branch inner exit } ∷ (all_code around_code ++ all_code code)
+    codes = record { steps = step ∷ []; leave = Branch inner exit } ∷ (all_of around_code ++ all_of code)
 
 -- a `while` of steps, whose body is cut so
-abbrev pub code_looped : ℕ → OpSpec → List ℕ → ℕ → ℕ → (CodeStretch → CodeStretch) → CodeStretch → CodeStretch
+abbrev pub code_looped : ℕ → OpSpec → List ℕ → ℕ → ℕ → (Stretch → Stretch) → Stretch → Stretch
 code_looped statement operator args block exit body code = record {
   first = record { steps = []; leave = Jump (block + 1) };
-  later = condition_alone statement operator args (block + 2) exit ∷ (all_code (body (code_left (Jump (block + 1)))) ++ all_code code);
+  later = condition_alone statement operator args (block + 2) exit ∷ (all_of (body (code_left (Jump (block + 1)))) ++ all_of code);
 }
 
-pub while_goes : (types : List VarType) (operator : OpSpec) (args : List ℕ) (body : List Weave) (place : Place) (knows : Known) (body_code : CodeStretch → CodeStretch)
+pub while_goes : (types : List VarType) (operator : OpSpec) (args : List ℕ) (body : List Weave) (place : WeavePlace) (knows : Known) (body_code : Stretch → Stretch)
     → is_scalar operator ≡ true
     → Ends (length types) (place.operator + length (phis_at types body place) + 1) (woven_all body (turn_of types body place)).operator
     (with_phis place.defined place.operator (phis_at types body place)) (woven_all body (turn_of types body place)).defined (assigned_in body)
     → Ready (length types) knows (with_phis place.defined place.operator (phis_at types body place)) → list_all (is_assigned knows.assigned) args ≡ true
-    → Goes (length types) (turn_of types body place) (adds body) (woven_all body (turn_of types body place)) body_code
-    → Goes (length types) place (3 + adds body) (looped types operator args body place)
-    (code_looped place.statement operator args place.block (place.block + 3 + adds body) body_code)
+    → Goes (length types) (turn_of types body place) (weave_adds body) (woven_all body (turn_of types body place)) body_code
+    → Goes (length types) place (3 + weave_adds body) (woven_loop types operator args body place)
+    (code_looped place.statement operator args place.block (place.block + 3 + weave_adds body) body_code)
 while_goes types operator args body place knows body_code scalar ends ready all goes = record {
   entries = header_entry ∷ (only_of inside ∷ (goes.entries ++ only_of inside ∷ []));
   many = (let e = length-append goes.entries (only_of inside ∷ []) in let f = goes.many in omega (arith, e, f));
@@ -203,17 +203,17 @@ while_goes types operator args body place knows body_code scalar ends ready all 
         named = named;
         turn_named = goes.named known (turn_targets known targets) (inside_named known targets named);
       } in
-      while_holds (length types) known place.block (place.block + 1) (place.block + 2) exit (place.block + 2 + adds body) place.operator turn.operator body place.defined
-      turn.defined (operator_of types inside place.statement operator args) (step_of place.statement None operator args) (turn.onto (left (Jump (place.block + 1)))) stretch
+      while_holds (length types) known place.block (place.block + 1) (place.block + 2) exit (place.block + 2 + weave_adds body) place.operator turn.operator body place.defined
+      turn.defined (operator_of types inside place.statement operator args) (step_of place.statement None operator args) (turn.onto (just_left (Jump (place.block + 1)))) stretch
       (body_code (code_left (Jump (place.block + 1)))) code last top first index at refl scalar same reached
       (step_good (length types) known (place.block + 1) place.operator (length phis) types knows inside place.statement None operator args
       (meet_reached (length types) known (place.block + 1) place.operator phis place.defined turn.defined place.defined
       (header_meets (length types) known (place.block + 1) (place.block + 2) exit place.operator turn.operator body place.defined turn.defined at))
       ready all at.condition (λ variable is_target. absurd cc))
       refl (omega arith) (omega arith)
-      (goes.carries known body_entries (turn_targets known targets) (inside_named known targets named) (left (Jump (place.block + 1))) (code_left (Jump (place.block + 1)))
+      (goes.carries known body_entries (turn_targets known targets) (inside_named known targets named) (just_left (Jump (place.block + 1))) (code_left (Jump (place.block + 1)))
       exit turn.operator)
-      (continues_at (length types) known (place.block + (3 + adds body)) exit turn.operator inside stretch code last top (omega arith) later);
+      (continues_at (length types) known (place.block + (3 + weave_adds body)) exit turn.operator inside stretch code last top (omega arith) later);
 }
   where
     phis : List ℕ
@@ -226,12 +226,12 @@ while_goes types operator args body place knows body_code scalar ends ready all 
     turn = woven_all body (turn_of types body place)
 
     exit : ℕ
-    exit = place.block + 3 + adds body
+    exit = place.block + 3 + weave_adds body
 
     header_entry : Entry
     header_entry = either_of phis place.defined turn.defined place.defined
 
-    to_exit : place.block + 2 + 1 + length goes.entries ≡ place.block + 3 + adds body
+    to_exit : place.block + 2 + 1 + length goes.entries ≡ place.block + 3 + weave_adds body
     to_exit = let e = goes.many in omega (arith, e)
 
     All : Reaching → Type 0

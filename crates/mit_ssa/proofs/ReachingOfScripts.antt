@@ -7,15 +7,15 @@ use Rattle.std.proofs.lemmas.List.{get_or_past}
 use Rattle.std.proofs.lemmas.List.Elements.{All-nil, All-weaker}
 use Rattle.mit_ops.specs.declared.leave.Leave.TheVariants.{End}
 use Rattle.mit_ops.specs.declared.types.VarType.{VarType}
-use Rattle.mit_script.specs.Accepted.{at_start as known_at_start, check_of, checked, in_order, type_or_unset}
+use Rattle.mit_script.specs.Accepted.{at_start, check_of, checked, in_order, type_or_unset}
 use Rattle.mit_script.specs.Trees.{Head, IsFormed, IsFormedHead, assigns, heads_of, writes}
-use Rattle.mit_script.specs.Trees.{decides as decides_head}
+use Rattle.mit_script.specs.Trees.{decides}
 use Rattle.mit_script.specs.declared.tree.Script.{Script}
-use Rattle.mit_cfg.specs.Blocks.{Stretch as CodeStretch, all_of as all_code, blocks_of, cut_of, in_turn}
+use Rattle.mit_cfg.specs.Blocks.{Stretch, all_of, blocks_of, cut_in_turn, cut_of}
 use Rattle.mit_cfg.specs.declared.block.Block.{Block as Code}
 use Rattle.mit_plan.specs.Paths.{next_of}
 use Rattle.mit_ssa.specs.Reaching.{AreListed, Reaching, reach}
-use Rattle.mit_ssa.specs.Woven.{Weave, adds, all_of, at_start, left, weave_of, woven_all, woven_blocks}
+use Rattle.mit_ssa.specs.Woven.{Weave, just_left, start_place, stretch_blocks, weave_adds, weave_of, woven_all, woven_blocks}
 use Rattle.mit_ssa.specs.declared.block.Block.{Block}
 use Rattle.mit_ssa.proofs.DefinitionsEdges.{each_contains}
 use Rattle.mit_ssa.proofs.DefinitionsOfScripts.{ends_with, map_length, start_ready}
@@ -132,19 +132,19 @@ entries_good variables blocks codes has = record {
 
 -- ---- the whole script
 
-goes_entries : (variables : ℕ) (weaves : List Weave) (onto : CodeStretch → CodeStretch) → Goes variables at_start (adds weaves) (woven_all weaves at_start) onto
-    → HasEntries variables (all_of ((woven_all weaves at_start).onto (left End))) (all_code (onto (code_left End)))
+goes_entries : (variables : ℕ) (weaves : List Weave) (onto : Stretch → Stretch) → Goes variables start_place (weave_adds weaves) (woven_all weaves start_place) onto
+    → HasEntries variables (stretch_blocks ((woven_all weaves start_place).onto (just_left End))) (all_of (onto (code_left End)))
 unfolding CodeBlocks GoodSteps Each reach
 goes_entries variables weaves onto goes = record {
   entries = goes.entries;
   targets = goes.targets;
-  last = 0 + adds weaves + 1;
-  most = (woven_all weaves at_start).operator;
+  last = 0 + weave_adds weaves + 1;
+  most = (woven_all weaves start_place).operator;
   many = (let e = goes.many in omega (arith, e));
-  good = code_begins variables known 0 0 0 [] ((woven_all weaves at_start).onto (left End)) (onto (code_left End)) (0 + adds weaves + 1)
-      (woven_all weaves at_start).operator refl named tt
+  good = code_begins variables known 0 0 0 [] ((woven_all weaves start_place).onto (just_left End)) (onto (code_left End)) (0 + weave_adds weaves + 1)
+      (woven_all weaves start_place).operator refl named tt
       (goes.carries known (are_entries variables goes.entries goes.targets) (are_targets variables goes.entries goes.targets)
-      (λ variable operator below none. absurd cc) (left End) (code_left End) (0 + adds weaves + 1) (woven_all weaves at_start).operator
+      (λ variable operator below none. absurd cc) (just_left End) (code_left End) (0 + weave_adds weaves + 1) (woven_all weaves start_place).operator
       (λ first index same reached. record {
         end = index;
         good = record { leave_is = refl; decided = λ branch. absurd cc; steps = refl; brings = tt };
@@ -167,19 +167,19 @@ goes_entries variables weaves onto goes = record {
 plain_head : (variables : ℕ) (head : Head) → IsFormedHead variables head → IsProperHead head
 plain_head variables (assigns target operator args) formed = formed.1
 plain_head variables (writes operator args) formed = tt
-plain_head variables (decides_head operator args) formed = formed.0
+plain_head variables (decides operator args) formed = formed.0
 
 has_entries : (script : Script) (types : List VarType) → IsFormed script → checked script ≡ Ok types
     → HasEntries (length types) (woven_blocks script types) (blocks_of script)
 has_entries script types formed accepted =
-    let ended = ends_with script.names (in_order (map check_of script.body) (known_at_start script.names)) types accepted in
-    let a = (block_flows types script.body).sizes (known_at_start script.names) ended.last ended.is in
+    let ended = ends_with script.names (in_order (map check_of script.body) (at_start script.names)) types accepted in
+    let a = (block_flows types script.body).sizes (at_start script.names) ended.last ended.is in
     let b = map_length type_or_unset ended.last.types in
     let c = ap (λ (ts : List VarType). length ts) ended.types_are in
     let d = map_length {B = Option VarType} (λ name. None) script.names in
-    goes_entries (length types) (map (weave_of types) script.body) (in_turn (map cut_of script.body) 0 1)
+    goes_entries (length types) (map (weave_of types) script.body) (cut_in_turn (map cut_of script.body) 0 1)
     ((block_stands types script.body (All-weaker (IsFormedHead (length script.names)) IsProperHead (plain_head (length script.names)) (heads_of script) formed.formed)).goes
-    at_start (known_at_start script.names) ended.last ended.is (start_ready script.names (length types) (omega (arith, a, b, c, d))))
+    start_place (at_start script.names) ended.last ended.is (start_ready script.names (length types) (omega (arith, a, b, c, d))))
 
 -- the operators of an accepted script stand beside its steps, and each takes what may have defined its variables last
 pub code_good : (script : Script) (types : List VarType) → IsFormed script → checked script ≡ Ok types

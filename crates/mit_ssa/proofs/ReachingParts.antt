@@ -3,13 +3,13 @@ use Rattle.std.proofs.Common.{◌≡◌, ◌<◌, ◌+◌, ℕ, suc, List, [], �
 use Rattle.std.proofs.lemmas.List.{length-map}
 use Rattle.mit_ops.specs.declared.leave.Leave.{Leave}
 use Rattle.mit_ops.specs.declared.leave.Leave.TheVariants.{Jump}
-use Rattle.mit_cfg.specs.Blocks.{Stretch as CodeStretch, all_of as all_code}
+use Rattle.mit_cfg.specs.Blocks.{Stretch, all_of}
 use Rattle.mit_cfg.specs.declared.block.Block.{Block as Code}
 use Rattle.mit_cfg.specs.declared.block.Step.{Step}
 use Rattle.mit_plan.specs.Paths.{next_of}
 use Rattle.mit_plan.specs.Valid.{is_branch}
 use Rattle.mit_ssa.specs.Reaching.{AreListed, IsDecided, Reaching, reach}
-use Rattle.mit_ssa.specs.Woven.{Defined, Stretch, all_of, left, preceded}
+use Rattle.mit_ssa.specs.Woven.{Defined, WovenStretch, just_left, operators_first, stretch_blocks}
 use Rattle.mit_ssa.specs.declared.block.Block.{Block}
 use Rattle.mit_ssa.specs.declared.block.Operator.{Operator}
 use Rattle.mit_ssa.proofs.DefinitionsGood.{only_of}
@@ -116,7 +116,7 @@ CodeBlocks variables known block first (it ∷ more) (code ∷ codes) last most 
     UpTo (GoodWhole variables known block first it code) (λ end. CodeBlocks variables known (block + 1) (first + end) more codes last most)
 
 -- from an index of a block on
-abbrev pub CodeFrom : ℕ → Reaching → ℕ → ℕ → ℕ → Stretch → CodeStretch → ℕ → ℕ → Type 0
+abbrev pub CodeFrom : ℕ → Reaching → ℕ → ℕ → ℕ → WovenStretch → Stretch → ℕ → ℕ → Type 0
 CodeFrom variables known block first index stretch code last most =
     UpTo (GoodRest variables known block first index stretch.first.operators stretch.first.leave code.first)
     (λ end. CodeBlocks variables known (block + 1) (first + end) stretch.later code.later last most)
@@ -139,10 +139,10 @@ code_append variables known block first (it ∷ xs) ys (code ∷ cs) ds middle a
 }
 
 -- a stretch that begins with a block's phis
-pub code_begins : (variables : ℕ) (known : Reaching) (block first index : ℕ) (phis : List Operator) (stretch : Stretch) (code : CodeStretch) (last most : ℕ)
+pub code_begins : (variables : ℕ) (known : Reaching) (block first index : ℕ) (phis : List Operator) (stretch : WovenStretch) (code : Stretch) (last most : ℕ)
     → length phis ≡ index → IsNamedEntry variables known block → EachFrom (GoodPhi known block first) 0 phis
     → CodeFrom variables known block first index stretch code last most
-    → CodeBlocks variables known block first (all_of (preceded phis stretch)) (all_code code) last most
+    → CodeBlocks variables known block first (stretch_blocks (operators_first phis stretch)) (all_of code) last most
 unfolding CodeBlocks
 code_begins variables known block first index phis stretch code last most many named good from = record {
   end = from.end;
@@ -160,7 +160,7 @@ code_begins variables known block first index phis stretch code last most many n
 -- no more operators, and a jump
 pub code_leaves : (variables : ℕ) (known : Reaching) (block first index target last most : ℕ) → block + 1 ≡ last → first + index ≡ most
     → Brings variables known block first index target
-    → CodeFrom variables known block first index (left (Jump target)) (record { first = record { steps = []; leave = Jump target }; later = [] }) last most
+    → CodeFrom variables known block first index (just_left (Jump target)) (record { first = record { steps = []; leave = Jump target }; later = [] }) last most
 unfolding CodeBlocks GoodSteps Each
 code_leaves variables known block first index target last most next many brings = record {
   end = index;

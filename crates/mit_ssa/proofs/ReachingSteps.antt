@@ -7,11 +7,11 @@ use Rattle.mit_ops.specs.declared.types.VarType.{VarType}
 use Rattle.mit_script.specs.Accepted.{Check, Known, check_step, in_order, is_assigned}
 use Rattle.mit_script.specs.Trees.{is_write}
 use Rattle.mit_script.specs.declared.tree.Stmt.TheOpen as layer
-use Rattle.mit_cfg.specs.Blocks.{Cut, Stretch as CodeStretch, cut_step, in_turn, step_of}
-use Rattle.mit_cfg.specs.Blocks.{preceded as code_preceded, adds as cut_adds, counts as cut_counts}
+use Rattle.mit_cfg.specs.Blocks.{Cut, Stretch, cut_in_turn, cut_step, step_of}
+use Rattle.mit_cfg.specs.Blocks.{preceded, cut_adds, cut_counts}
 use Rattle.mit_cfg.specs.declared.block.Step.{Step}
 use Rattle.mit_ssa.specs.Reaching.{Reaching, reach}
-use Rattle.mit_ssa.specs.Woven.{Defined, Place, Stretch, Weave, Woven, adds, after, counts, defining, definition_of, inputs_from, operator_of, preceded, weave_step, woven_all}
+use Rattle.mit_ssa.specs.Woven.{Defined, Weave, WeavePlace, Woven, WovenStretch, defining, definition_of, inputs_from, operator_of, operators_first, place_after, weave_adds, weave_counts, weave_step, woven_all}
 use Rattle.mit_ssa.specs.declared.block.Operator.{Operator}
 use Rattle.mit_ssa.proofs.Counted.{sum-map-cons}
 use Rattle.mit_ssa.proofs.DefinitionsGood.{definition_is, listed_only, only_of}
@@ -25,36 +25,36 @@ use Rattle.mit_ssa.proofs.StructureEach.{each_front}
 -- ---- a part of a script that begins at a place
 
 -- wherever this number stands in the block, the blocks from there on are good
-abbrev pub GoesOn : ℕ → Reaching → ℕ → ℕ → Defined → Stretch → CodeStretch → ℕ → ℕ → Type 0
+abbrev pub GoesOn : ℕ → Reaching → ℕ → ℕ → Defined → WovenStretch → Stretch → ℕ → ℕ → Type 0
 GoesOn variables known block number defined stretch code last most =
     (first index : ℕ) → first + index ≡ number → IsReachOf variables known block first index defined
     → CodeFrom variables known block first index stretch code last most
 
 -- the entries of the blocks that it adds, and what its operators define
-pub record Goes (variables : ℕ) (place : Place) (added : ℕ) (woven : Woven) (onto : CodeStretch → CodeStretch) : Type 0 where
+pub record Goes (variables : ℕ) (place : WeavePlace) (added : ℕ) (woven : Woven) (onto : Stretch → Stretch) : Type 0 where
   pub entries : List Entry
   pub many : length entries ≡ added
   pub targets : List (Option ℕ)
   pub grows : place.operator + length targets ≡ woven.operator
   pub named : (known : Reaching) → AreTargets known place.operator targets → IsNamed variables known place.defined → IsNamed variables known woven.defined
   pub carries : (known : Reaching) → AreEntries variables known (place.block + 1) entries → AreTargets known place.operator targets
-      → IsNamed variables known place.defined → (stretch : Stretch) (code : CodeStretch) (last most : ℕ)
+      → IsNamed variables known place.defined → (stretch : WovenStretch) (code : Stretch) (last most : ℕ)
       → GoesOn variables known (place.block + added) woven.operator woven.defined stretch code last most
       → GoesOn variables known place.block place.operator place.defined (woven.onto stretch) (onto code) last most
 
 pub record GoesBeside (variables : ℕ) (weave : Weave) (cut : Cut) (check : Check) : Type 0 where
   pub added : cut.added ≡ weave.added
   pub count : cut.count ≡ weave.count
-  pub goes : (place : Place) (knows knows_after : Known) → check knows ≡ Ok knows_after → Ready variables knows place.defined
+  pub goes : (place : WeavePlace) (knows knows_after : Known) → check knows ≡ Ok knows_after → Ready variables knows place.defined
       → Goes variables place weave.added (weave.weave place) (cut.onto place.block place.statement)
 
 pub record AllGo (variables : ℕ) (weaves : List Weave) (cuts : List Cut) (checks : List Check) : Type 0 where
-  pub added : cut_adds cuts ≡ adds weaves
-  pub count : cut_counts cuts ≡ counts weaves
-  pub goes : (place : Place) (knows knows_after : Known) → in_order checks knows ≡ Ok knows_after → Ready variables knows place.defined
-      → Goes variables place (adds weaves) (woven_all weaves place) (in_turn cuts place.block place.statement)
+  pub added : cut_adds cuts ≡ weave_adds weaves
+  pub count : cut_counts cuts ≡ weave_counts weaves
+  pub goes : (place : WeavePlace) (knows knows_after : Known) → in_order checks knows ≡ Ok knows_after → Ready variables knows place.defined
+      → Goes variables place (weave_adds weaves) (woven_all weaves place) (cut_in_turn cuts place.block place.statement)
 
-pub continues_at : (variables : ℕ) (known : Reaching) (block other number : ℕ) (defined : Defined) (stretch : Stretch) (code : CodeStretch) (last most : ℕ)
+pub continues_at : (variables : ℕ) (known : Reaching) (block other number : ℕ) (defined : Defined) (stretch : WovenStretch) (code : Stretch) (last most : ℕ)
     → block ≡ other → GoesOn variables known block number defined stretch code last most → GoesOn variables known other number defined stretch code last most
 continues_at variables known block other number defined stretch code last most same =
     subst (λ (b : ℕ). GoesOn variables known b number defined stretch code last most) same
@@ -62,7 +62,7 @@ continues_at variables known block other number defined stretch code last most s
 -- ---- one after another
 
 pub none_go : (variables : ℕ) → AllGo variables [] [] []
-unfolding woven_all in_turn
+unfolding woven_all cut_in_turn
 none_go variables = record {
   added = refl;
   count = refl;
@@ -73,15 +73,15 @@ none_go variables = record {
     grows = omega arith;
     named = λ known targets named. named;
     carries = λ known entries targets named stretch code last most later.
-        let e : place.block + adds [] ≡ place.block = omega arith in
-        continues_at variables known (place.block + adds []) place.block place.operator place.defined stretch code last most e later;
+        let e : place.block + weave_adds [] ≡ place.block = omega arith in
+        continues_at variables known (place.block + weave_adds []) place.block place.operator place.defined stretch code last most e later;
   };
 }
 
-both_go : (variables : ℕ) (weave : Weave) (weaves : List Weave) (place : Place) (one other : CodeStretch → CodeStretch)
+both_go : (variables : ℕ) (weave : Weave) (weaves : List Weave) (place : WeavePlace) (one other : Stretch → Stretch)
     → Goes variables place weave.added (weave.weave place) one
-    → Goes variables (after place weave (weave.weave place)) (adds weaves) (woven_all weaves (after place weave (weave.weave place))) other
-    → Goes variables place (adds (weave ∷ weaves)) (woven_all (weave ∷ weaves) place) (λ code. one (other code))
+    → Goes variables (place_after place weave (weave.weave place)) (weave_adds weaves) (woven_all weaves (place_after place weave (weave.weave place))) other
+    → Goes variables place (weave_adds (weave ∷ weaves)) (woven_all (weave ∷ weaves) place) (λ code. one (other code))
 unfolding woven_all
 both_go variables weave weaves place one other first rest = record {
   entries = first.entries ++ rest.entries;
@@ -92,16 +92,16 @@ both_go variables weave weaves place one other first rest = record {
   carries = λ known entries targets named stretch code last most done.
       let g = first.many in
       let e : place.block + 1 + length first.entries ≡ place.block + weave.added + 1 = omega (arith, g) in
-      let f : place.block + adds (weave ∷ weaves) ≡ place.block + weave.added + adds weaves = (let h = sum-map-cons (λ (w : Weave). w.added) weave weaves in omega (arith, h)) in
+      let f : place.block + weave_adds (weave ∷ weaves) ≡ place.block + weave.added + weave_adds weaves = (let h = sum-map-cons (λ (w : Weave). w.added) weave weaves in omega (arith, h)) in
       first.carries known (each_front (IsEntry variables known) first.entries rest.entries (place.block + 1) entries) (early known targets) named ((woven_all weaves next).onto stretch) (other code) last most
       (rest.carries known (each_onward (IsEntry variables known) (place.block + 1) (place.block + weave.added + 1) first.entries rest.entries e entries) (later known targets)
       (first.named known (early known targets) named) stretch code last most
-      (continues_at variables known (place.block + adds (weave ∷ weaves)) (place.block + weave.added + adds weaves) (woven_all weaves next).operator
+      (continues_at variables known (place.block + weave_adds (weave ∷ weaves)) (place.block + weave.added + weave_adds weaves) (woven_all weaves next).operator
       (woven_all weaves next).defined stretch code last most f done));
 }
   where
-    next : Place
-    next = after place weave (weave.weave place)
+    next : WeavePlace
+    next = place_after place weave (weave.weave place)
 
     early : (known : Reaching) → AreTargets known place.operator (first.targets ++ rest.targets) → AreTargets known place.operator first.targets
     early known targets = each_front (IsTarget known) first.targets rest.targets place.operator targets
@@ -112,21 +112,21 @@ both_go variables weave weaves place one other first rest = record {
 pub more_go : (variables : ℕ) (weave : Weave) (weaves : List Weave) (cut : Cut) (cuts : List Cut) (check : Check) (checks : List Check)
     → Flows variables weave check → GoesBeside variables weave cut check → AllGo variables weaves cuts checks
     → AllGo variables (weave ∷ weaves) (cut ∷ cuts) (check ∷ checks)
-unfolding in_turn
+unfolding cut_in_turn
 more_go variables weave weaves cut cuts check checks flows one rest = record {
   added = (let a = sum-map-cons (λ (w : Weave). w.added) weave weaves in let b = sum-map-cons (λ (c : Cut). c.added) cut cuts in let c = one.added in let d = rest.added in omega (arith, a, b, c, d));
   count = (let a = sum-map-cons (λ (w : Weave). w.count) weave weaves in let b = sum-map-cons (λ (c : Cut). c.count) cut cuts in let c = one.count in let d = rest.count in omega (arith, a, b, c, d));
   goes = λ place knows knows_after is ready.
       let parts = then_known check (in_order checks) knows knows_after is in
-      subst (λ (a : ℕ). Goes variables place (adds (weave ∷ weaves)) (woven_all (weave ∷ weaves) place) (cut_so place a cut.count)) (sym one.added)
-      (subst (λ (n : ℕ). Goes variables place (adds (weave ∷ weaves)) (woven_all (weave ∷ weaves) place) (cut_so place weave.added n)) (sym one.count)
-      (both_go variables weave weaves place (cut.onto place.block place.statement) (in_turn cuts (place.block + weave.added) (place.statement + weave.count))
+      subst (λ (a : ℕ). Goes variables place (weave_adds (weave ∷ weaves)) (woven_all (weave ∷ weaves) place) (cut_so place a cut.count)) (sym one.added)
+      (subst (λ (n : ℕ). Goes variables place (weave_adds (weave ∷ weaves)) (woven_all (weave ∷ weaves) place) (cut_so place weave.added n)) (sym one.count)
+      (both_go variables weave weaves place (cut.onto place.block place.statement) (cut_in_turn cuts (place.block + weave.added) (place.statement + weave.count))
       (one.goes place knows parts.middle parts.first ready)
-      (rest.goes (after place weave (weave.weave place)) parts.middle knows_after parts.second (flows.passes place knows parts.middle parts.first ready))));
+      (rest.goes (place_after place weave (weave.weave place)) parts.middle knows_after parts.second (flows.passes place knows parts.middle parts.first ready))));
 }
   where
-    cut_so : Place → ℕ → ℕ → CodeStretch → CodeStretch
-    cut_so place added count code = cut.onto place.block place.statement (in_turn cuts (place.block + added) (place.statement + count) code)
+    cut_so : WeavePlace → ℕ → ℕ → Stretch → Stretch
+    cut_so place added count code = cut.onto place.block place.statement (cut_in_turn cuts (place.block + added) (place.statement + count) code)
 
 -- ---- the operator of a step
 
@@ -157,9 +157,9 @@ step_good variables known block first index types knows defined statement target
 }
 
 -- a step stands before the rest of a block
-pub step_precedes : (variables : ℕ) (known : Reaching) (block first index : ℕ) (operator : Operator) (step : Step) (stretch : Stretch) (code : CodeStretch) (last most : ℕ)
+pub step_precedes : (variables : ℕ) (known : Reaching) (block first index : ℕ) (operator : Operator) (step : Step) (stretch : WovenStretch) (code : Stretch) (last most : ℕ)
     → GoodStep known block first index operator step → CodeFrom variables known block first (suc index) stretch code last most
-    → CodeFrom variables known block first index (preceded (operator ∷ []) stretch) (code_preceded step code) last most
+    → CodeFrom variables known block first index (operators_first (operator ∷ []) stretch) (preceded step code) last most
 unfolding GoodSteps
 step_precedes variables known block first index operator step stretch code last most good later = record {
   end = later.end;

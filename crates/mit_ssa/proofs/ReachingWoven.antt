@@ -3,16 +3,16 @@ use Rattle.std.proofs.Common.{◌≡◌, ◌+◌, ℕ, List, [], ◌∷◌, ◌+
 use Rattle.std.proofs.lemmas.List.Elements.{All-head, All-tail}
 use Rattle.mit_ops.specs.declared.kinds.OpSpec.{OpSpec}
 use Rattle.mit_ops.specs.declared.types.VarType.{VarType}
-use Rattle.mit_script.specs.Accepted.{Check, Known, branched as branched_check, check_of, check_step, decided_by, in_order, looped as looped_check, with_assigned}
+use Rattle.mit_script.specs.Accepted.{Check, Known, branched, check_of, check_step, decided_by, in_order, looped, with_assigned}
 use Rattle.mit_script.specs.Trees.{Head, assigns, head_step, heads_in, is_scalar, is_write, writes}
-use Rattle.mit_script.specs.Trees.{decides as decides_head}
+use Rattle.mit_script.specs.Trees.{decides}
 use Rattle.mit_script.specs.declared.tree.Stmt.{Stmt, roll-Stmt}
 use Rattle.mit_script.specs.declared.tree.Stmt.TheFolds.{fold-roll-Stmt, ind-Stmt, map-Stmt}
 use Rattle.mit_script.specs.declared.tree.Stmt.TheOpen.{Stmt-F}
 use Rattle.mit_script.specs.declared.tree.Stmt.TheOpen as layer
-use Rattle.mit_cfg.specs.Blocks.{Cut, Stretch as CodeStretch, cut_of, cut_step, in_turn}
-use Rattle.mit_cfg.specs.Blocks.{adds as cut_adds, counts as cut_counts}
-use Rattle.mit_ssa.specs.Woven.{Place, Weave, adds, branched, counts, looped, weave_of, weave_step}
+use Rattle.mit_cfg.specs.Blocks.{Cut, Stretch, cut_in_turn, cut_of, cut_step}
+use Rattle.mit_cfg.specs.Blocks.{cut_adds, cut_counts}
+use Rattle.mit_ssa.specs.Woven.{Weave, WeavePlace, weave_adds, weave_counts, weave_of, weave_step, woven_branch, woven_loop}
 use Rattle.mit_ssa.proofs.DefinitionsPhis.{phis_stay}
 use Rattle.mit_ssa.proofs.DefinitionsReady.{Ready, beside_ready, decides_known, passed_ready, rejoins_known, then_known, turns_known}
 use Rattle.mit_ssa.proofs.DefinitionsWoven.{Flows, all_weave, beside_of, block_flows, inside_of, one_flows, phis_at, turn_of}
@@ -32,32 +32,32 @@ if_go types operator args on_true on_false true_cuts false_cuts true_checks fals
   added = (let a = first.added in let b = second.added in omega (arith, a, b));
   count = (let a = first.count in let b = second.count in omega (arith, a, b));
   goes = λ place knows knows_after is ready.
-      let parts = then_known (decided_by operator args) (branched_check true_checks false_checks) knows knows_after is in
+      let parts = then_known (decided_by operator args) (branched true_checks false_checks) knows knows_after is in
       let decided = decides_known operator args knows parts.middle parts.first in
       let inside_ready = subst (λ (k : Known). Ready (length types) k place.defined) decided.is (passed_ready (length types) knows place.defined ready) in
       let joins = rejoins_known true_checks false_checks parts.middle knows_after parts.second in
-      cut_to place (if_goes types operator args on_true on_false place knows (in_turn true_cuts (place.block + 1) (place.statement + 1))
-      (in_turn false_cuts (place.block + 2 + adds on_true) (place.statement + 1 + counts on_true)) scalar (true_flows.ends (inside_of place))
+      cut_to place (if_goes types operator args on_true on_false place knows (cut_in_turn true_cuts (place.block + 1) (place.statement + 1))
+      (cut_in_turn false_cuts (place.block + 2 + weave_adds on_true) (place.statement + 1 + weave_counts on_true)) scalar (true_flows.ends (inside_of place))
       (false_flows.ends (beside_of on_true place)) ready decided.args_known
       (first.goes (inside_of place) parts.middle joins.one joins.first inside_ready)
       (second.goes (beside_of on_true place) (with_assigned parts.middle.assigned joins.one) joins.other joins.second
       (beside_ready (length types) parts.middle joins.one place.defined inside_ready)));
 }
   where
-    cut_so : Place → ℕ → ℕ → ℕ → CodeStretch → CodeStretch
+    cut_so : WeavePlace → ℕ → ℕ → ℕ → Stretch → Stretch
     cut_so place true_adds false_adds true_counts =
         code_branched place.statement operator args place.block (place.block + 2 + true_adds) (place.block + 2 + true_adds + 1 + false_adds)
-        (in_turn true_cuts (place.block + 1) (place.statement + 1)) (in_turn false_cuts (place.block + 2 + true_adds) (place.statement + 1 + true_counts))
+        (cut_in_turn true_cuts (place.block + 1) (place.statement + 1)) (cut_in_turn false_cuts (place.block + 2 + true_adds) (place.statement + 1 + true_counts))
 
-    Whole : Place → (CodeStretch → CodeStretch) → Type 0
-    Whole place = Goes (length types) place (3 + adds on_true + adds on_false) (branched types operator args on_true on_false place)
+    Whole : WeavePlace → (Stretch → Stretch) → Type 0
+    Whole place = Goes (length types) place (3 + weave_adds on_true + weave_adds on_false) (woven_branch types operator args on_true on_false place)
 
-    cut_to : (place : Place) → Whole place (cut_so place (adds on_true) (adds on_false) (counts on_true))
+    cut_to : (place : WeavePlace) → Whole place (cut_so place (weave_adds on_true) (weave_adds on_false) (weave_counts on_true))
         → Whole place ((cut_step (layer.If operator args true_cuts false_cuts)).onto place.block place.statement)
     cut_to place goes =
         subst (λ (n : ℕ). Whole place (cut_so place n (cut_adds false_cuts) (cut_counts true_cuts))) (sym first.added)
-        (subst (λ (n : ℕ). Whole place (cut_so place (adds on_true) n (cut_counts true_cuts))) (sym second.added)
-        (subst (λ (n : ℕ). Whole place (cut_so place (adds on_true) (adds on_false) n)) (sym first.count) goes))
+        (subst (λ (n : ℕ). Whole place (cut_so place (weave_adds on_true) n (cut_counts true_cuts))) (sym second.added)
+        (subst (λ (n : ℕ). Whole place (cut_so place (weave_adds on_true) (weave_adds on_false) n)) (sym first.count) goes))
 
 while_go : (types : List VarType) (operator : OpSpec) (args : List ℕ) (body : List Weave) (cuts : List Cut) (checks : List Check) → is_scalar operator ≡ true
     → Flows (length types) (all_weave body) (in_order checks) → AllGo (length types) body cuts checks
@@ -67,19 +67,19 @@ while_go types operator args body cuts checks scalar flows inside = record {
   added = (let a = inside.added in omega (arith, a));
   count = (let a = inside.count in omega (arith, a));
   goes = λ place knows knows_after is ready.
-      let parts = then_known (decided_by operator args) (looped_check checks) knows knows_after is in
+      let parts = then_known (decided_by operator args) (looped checks) knows knows_after is in
       let decided = decides_known operator args knows parts.middle parts.first in
       let turns = turns_known checks parts.middle knows_after parts.second in
       let inside_ready = subst (λ (k : Known). Ready (length types) k (turn_of types body place).defined) decided.is
       (passed_ready (length types) knows (turn_of types body place).defined (looped_ready place knows ready)) in
-      subst (λ (n : ℕ). Goes (length types) place (3 + adds body) (looped types operator args body place)
-      (code_looped place.statement operator args place.block (place.block + 3 + n) (in_turn cuts (place.block + 2) (place.statement + 1)))) (sym inside.added)
-      (while_goes types operator args body place knows (in_turn cuts (place.block + 2) (place.statement + 1)) scalar (flows.ends (turn_of types body place))
+      subst (λ (n : ℕ). Goes (length types) place (3 + weave_adds body) (woven_loop types operator args body place)
+      (code_looped place.statement operator args place.block (place.block + 3 + n) (cut_in_turn cuts (place.block + 2) (place.statement + 1)))) (sym inside.added)
+      (while_goes types operator args body place knows (cut_in_turn cuts (place.block + 2) (place.statement + 1)) scalar (flows.ends (turn_of types body place))
       (looped_ready place knows ready) decided.args_known
       (inside.goes (turn_of types body place) parts.middle turns.last turns.first inside_ready));
 }
   where
-    looped_ready : (place : Place) (knows : Known) → Ready (length types) knows place.defined → Ready (length types) knows (turn_of types body place).defined
+    looped_ready : (place : WeavePlace) (knows : Known) → Ready (length types) knows place.defined → Ready (length types) knows (turn_of types body place).defined
     looped_ready place knows ready = record {
       many = ready.many;
       each = λ variable is. phis_stay place.defined place.operator (phis_at types body place) variable (ready.each variable is);
@@ -91,7 +91,7 @@ while_go types operator args body cuts checks scalar flows inside = record {
 abbrev pub IsProperHead : Head → Type 0
 IsProperHead (assigns target operator args) = is_write operator ≡ false
 IsProperHead (writes operator args) = Unit {0}
-IsProperHead (decides_head operator args) = is_scalar operator ≡ true
+IsProperHead (decides operator args) = is_scalar operator ≡ true
 
 abbrev StandsBeside : List VarType → Stmt → Type 0
 StandsBeside types stmt = All IsProperHead (heads_in stmt) → GoesBeside (length types) (weave_of types stmt) (cut_of stmt) (check_of stmt)
@@ -129,10 +129,10 @@ layer_stands types (layer.If operator args on_true on_false) =
     (λ plain.
     let true_heads = flat_map (λ heads. heads) (map heads_in (map (only types) on_true)) in
     let false_heads = flat_map (λ heads. heads) (map heads_in (map (only types) on_false)) in
-    let inside = All-tail IsProperHead (decides_head operator args) (true_heads ++ false_heads) plain in
+    let inside = All-tail IsProperHead (decides operator args) (true_heads ++ false_heads) plain in
     if_go types operator args (map (weave_of types) (map (only types) on_true)) (map (weave_of types) (map (only types) on_false))
     (map cut_of (map (only types) on_true)) (map cut_of (map (only types) on_false)) (map check_of (map (only types) on_true)) (map check_of (map (only types) on_false))
-    (All-head IsProperHead (decides_head operator args) (true_heads ++ false_heads) plain)
+    (All-head IsProperHead (decides operator args) (true_heads ++ false_heads) plain)
     (block_flows types (map (only types) on_true)) (block_flows types (map (only types) on_false))
     (inner_stand types on_true (all_front IsProperHead true_heads false_heads inside)) (inner_stand types on_false (all_back IsProperHead true_heads false_heads inside)))
 layer_stands types (layer.While operator args body) =
@@ -140,8 +140,8 @@ layer_stands types (layer.While operator args body) =
     (λ plain.
     let inside = flat_map (λ heads. heads) (map heads_in (map (only types) body)) in
     while_go types operator args (map (weave_of types) (map (only types) body)) (map cut_of (map (only types) body)) (map check_of (map (only types) body))
-    (All-head IsProperHead (decides_head operator args) inside plain) (block_flows types (map (only types) body))
-    (inner_stand types body (All-tail IsProperHead (decides_head operator args) inside plain)))
+    (All-head IsProperHead (decides operator args) inside plain) (block_flows types (map (only types) body))
+    (inner_stand types body (All-tail IsProperHead (decides operator args) inside plain)))
 
 one_stands : (types : List VarType) (stmt : Stmt) → StandsBeside types stmt
 one_stands types = ind-Stmt (StandsBeside types) (λ one inner same. subst (λ some. StandsBeside types (roll-Stmt some)) same (layer_stands types inner))

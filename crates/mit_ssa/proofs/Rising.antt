@@ -8,7 +8,7 @@ use Rattle.std.proofs.lemmas.Cmp.{nat_cmp_total, nat_eq_equiv}
 use Rattle.std.proofs.lemmas.List.Kept.{Contains-dedup_nat, Contains-from_dedup, IsStrictlySortedBy-dedup}
 use Rattle.std.proofs.lemmas.List.Sorted.{list_any-IsPermutation}
 use Rattle.std.proofs.lemmas.Map.Views.{Contains-from_any, list_any-from_Contains}
-use Rattle.mit_ssa.specs.Weaving.{Rise, marked}
+use Rattle.mit_ssa.specs.Weaving.{Rise, has_mark}
 
 less : (x y : ℕ) → nat_cmp x y ≡ Less → suc x ≤ y
 less x y is = grind (arith, nat_tests)
@@ -34,9 +34,9 @@ both_ways true other to from = sym (to refl)
 both_ways false true to from = from refl
 both_ways false false to from = refl
 
-pub marked_same : (marks sorted : List ℕ) (variable : ℕ) → IsPermutation marks sorted → marked (dedup eqb sorted) variable ≡ marked marks variable
+pub marked_same : (marks sorted : List ℕ) (variable : ℕ) → IsPermutation marks sorted → has_mark (dedup eqb sorted) variable ≡ has_mark marks variable
 marked_same marks sorted variable moved =
-    both_ways (marked (dedup eqb sorted) variable) (marked sorted variable)
+    both_ways (has_mark (dedup eqb sorted) variable) (has_mark sorted variable)
     (λ there. list_any-from_Contains nat_eq_equiv variable sorted
     (Contains-from_dedup eqb sorted variable (Contains-from_any same_number variable (dedup eqb sorted) there)))
     (λ there. list_any-from_Contains nat_eq_equiv variable (dedup eqb sorted)

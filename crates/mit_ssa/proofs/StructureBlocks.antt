@@ -15,7 +15,7 @@ use Rattle.mit_plan.specs.declared.plan.PlanBlock.{PlanBlock}
 use Rattle.mit_script.specs.declared.tree.Script.{Script}
 use Rattle.mit_script.specs.declared.tree.Stmt.{Stmt}
 use Rattle.mit_ssa.specs.PlanFor.{blocks_from, plan_for, plan_of_blocks}
-use Rattle.mit_ssa.specs.Woven.{adds, at_start, left, weave_of, woven_blocks}
+use Rattle.mit_ssa.specs.Woven.{just_left, start_place, weave_adds, weave_of, woven_blocks}
 use Rattle.mit_ssa.specs.declared.block.Block.{Block}
 use Rattle.mit_ssa.proofs.StructureEach.{Each, each_at, each_front, each_join, each_made}
 use Rattle.mit_ssa.proofs.StructureLeaves.{AreLaid, Good, JumpsOn, block_laid, leaves_of}
@@ -107,7 +107,7 @@ laid_in plan types body = block_laid (leave_at plan) (length plan.blocks) (IsRea
 
 leaves_whole : (script : Script) (types : List VarType)
     → leaves_of (woven_blocks script types) ≡ (laid_in (plan_for script types) types script.body).leaves 0 ++ End ∷ []
-leaves_whole script types = (laid_in (plan_for script types) types script.body).is at_start (left End)
+leaves_whole script types = (laid_in (plan_for script types) types script.body).is start_place (just_left End)
 
 all_good : (script : Script) (types : List VarType) → Each (GoodIn (plan_for script types)) 0 (leaves_of (woven_blocks script types))
 all_good script types =
@@ -133,16 +133,16 @@ all_good script types =
     whole : leaves_of (woven_blocks script types) ≡ front ++ End ∷ []
     whole = leaves_whole script types
 
-    size : length plan.blocks ≡ adds (map (weave_of types) script.body) + 1
+    size : length plan.blocks ≡ weave_adds (map (weave_of types) script.body) + 1
     size =
         let a = length-blocks_from (woven_blocks script types) 0 in let b = length-map (woven_blocks script types) (λ (block : Block). block.leave) in
         let c = ap length whole in let d = length-append front (End ∷ []) in let e = laid.many 0 in
         omega (arith, a, b, c, d, e)
 
-    at_last : 0 + adds (map (weave_of types) script.body) ≡ 0 + length front
+    at_last : 0 + weave_adds (map (weave_of types) script.body) ≡ 0 + length front
     at_last = let e = laid.many 0 in omega (arith, e)
 
-    inside : Each (GoodIn plan) 0 front × IsReached plan (0 + adds (map (weave_of types) script.body))
+    inside : Each (GoodIn plan) 0 front × IsReached plan (0 + weave_adds (map (weave_of types) script.body))
     inside = laid.holds 0 (omega (arith, size))
         (each_front (λ number leave. leave_at plan number ≡ leave) front (End ∷ []) 0
         (subst (λ list. Each (λ number leave. leave_at plan number ≡ leave) 0 list) whole (leaves_stand (woven_blocks script types))))

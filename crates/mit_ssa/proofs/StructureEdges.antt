@@ -9,7 +9,7 @@ use Rattle.mit_ops.specs.declared.kinds.OpSpec.TheVariants.{Copy}
 use Rattle.mit_plan.specs.Plans.{PlanOf, inputs_of, no_edge, numbers_where}
 use Rattle.mit_plan.specs.Valid.{Before, EdgesInOrder}
 use Rattle.mit_plan.specs.declared.plan.Edge.{Edge}
-use Rattle.mit_ssa.specs.PlanFor.{edges_from, edges_in, operators_of, plan_of_blocks}
+use Rattle.mit_ssa.specs.PlanFor.{edges_in, operator_edges, operators_of, plan_of_blocks}
 use Rattle.mit_ssa.specs.declared.block.Block.{Block}
 use Rattle.mit_ssa.specs.declared.block.Operator.{Operator}
 use Rattle.mit_ssa.specs.declared.block.Source.{Source}
@@ -65,21 +65,21 @@ order_in op (source ∷ sources) input =
 abbrev LeadsFrom : ℕ → Edge → Type 0
 LeadsFrom op edge = op ≤ edge.to
 
-all_from : (operators : List Operator) (number : ℕ) → All (LeadsFrom number) (edges_from number operators)
-unfolding edges_from
+all_from : (operators : List Operator) (number : ℕ) → All (LeadsFrom number) (operator_edges number operators)
+unfolding operator_edges
 all_from [] number = All-nil (LeadsFrom number)
 all_from (operator ∷ operators) number =
-    All-append (LeadsFrom number) (edges_in number 0 operator.inputs) (edges_from (suc number) operators)
+    All-append (LeadsFrom number) (edges_in number 0 operator.inputs) (operator_edges (suc number) operators)
     (All-weaker (LeadsIn number 0) (LeadsFrom number) (λ edge leads. let a = leads.0 in omega (arith, a))
     (edges_in number 0 operator.inputs) (all_in number operator.inputs 0))
     (All-weaker (LeadsFrom (suc number)) (LeadsFrom number) (λ edge later. omega (arith, later))
-    (edges_from (suc number) operators) (all_from operators (suc number)))
+    (operator_edges (suc number) operators) (all_from operators (suc number)))
 
-order_from : (operators : List Operator) (number : ℕ) → AllPairs Before (edges_from number operators)
-unfolding edges_from
+order_from : (operators : List Operator) (number : ℕ) → AllPairs Before (operator_edges number operators)
+unfolding operator_edges
 order_from [] number = pairs_nil Before
 order_from (operator ∷ operators) number =
-    let these = edges_in number 0 operator.inputs in let later = edges_from (suc number) operators in
+    let these = edges_in number 0 operator.inputs in let later = operator_edges (suc number) operators in
     pairs_append Before these later (order_in number operator.inputs 0) (order_from operators (suc number))
     (All-weaker (LeadsIn number 0) (λ edge. All (Before edge) later)
     (λ edge leads. All-weaker (LeadsFrom (suc number)) (Before edge) (λ other above. let a = leads.0 in inl (omega (arith, a, above)))
@@ -102,20 +102,20 @@ sources_in P number (source ∷ sources) input each =
     (sources_in P number sources (suc input) (All-tail (λ (one : Source). P one.from) source sources each))
 
 pub sources_all : (P : ℕ → Type 0) (operators : List Operator) (number : ℕ) → All (λ operator. All (λ source. P source.from) operator.inputs) operators
-    → All (λ edge. P edge.from) (edges_from number operators)
-unfolding edges_from
+    → All (λ edge. P edge.from) (operator_edges number operators)
+unfolding operator_edges
 sources_all P [] number all = All-nil (λ (edge : Edge). P edge.from)
 sources_all P (operator ∷ operators) number all =
-    All-append (λ (edge : Edge). P edge.from) (edges_in number 0 operator.inputs) (edges_from (suc number) operators)
+    All-append (λ (edge : Edge). P edge.from) (edges_in number 0 operator.inputs) (operator_edges (suc number) operators)
     (sources_in P number operator.inputs 0 (All-head (λ (one : Operator). All (λ (source : Source). P source.from) one.inputs) operator operators all))
     (sources_all P operators (suc number) (All-tail (λ (one : Operator). All (λ (source : Source). P source.from) one.inputs) operator operators all))
 
 -- each leads to one of the operators
-pub targets_all : (operators : List Operator) (number end : ℕ) → number + length operators ≡ end → All (λ edge. edge.to < end) (edges_from number operators)
-unfolding edges_from
+pub targets_all : (operators : List Operator) (number end : ℕ) → number + length operators ≡ end → All (λ edge. edge.to < end) (operator_edges number operators)
+unfolding operator_edges
 targets_all [] number end whole = All-nil (λ (edge : Edge). edge.to < end)
 targets_all (operator ∷ operators) number end whole =
-    All-append (λ (edge : Edge). edge.to < end) (edges_in number 0 operator.inputs) (edges_from (suc number) operators)
+    All-append (λ (edge : Edge). edge.to < end) (edges_in number 0 operator.inputs) (operator_edges (suc number) operators)
     (All-weaker (LeadsIn number 0) (λ edge. edge.to < end) (λ edge leads. let a = leads.0 in omega (arith, a, whole))
     (edges_in number 0 operator.inputs) (all_in number operator.inputs 0))
     (targets_all operators (suc number) end (omega (arith, whole)))
@@ -163,11 +163,11 @@ abbrev pub no_operator : Operator
 no_operator = record { statement = 0; spec = Copy; phi = 0; inputs = [] }
 
 edges_there : (op : ℕ) (operators : List Operator) (number i : ℕ) → op ≡ number + i → i < length operators
-    → filter (to_is op) (edges_from number operators) ≡ edges_in op 0 (get_or operators i no_operator).inputs
-unfolding edges_from
+    → filter (to_is op) (operator_edges number operators) ≡ edges_in op 0 (get_or operators i no_operator).inputs
+unfolding operator_edges
 edges_there op [] number i is short = absurd (omega (arith, short))
 edges_there op (operator ∷ operators) number zero is short =
-    let these = edges_in number 0 operator.inputs in let later = edges_from (suc number) operators in
+    let these = edges_in number 0 operator.inputs in let later = operator_edges (suc number) operators in
     let same : number ≡ op = omega (arith, is) in
     filter-append (to_is op) these later
     ∙ ap (λ ys. filter (to_is op) these ++ ys) (kept_none (to_is op) later
@@ -179,7 +179,7 @@ edges_there op (operator ∷ operators) number zero is short =
     these (all_in number operator.inputs 0))
     ∙ ap (λ n. edges_in n 0 operator.inputs) same
 edges_there op (operator ∷ operators) number (suc i) is short =
-    let these = edges_in number 0 operator.inputs in let later = edges_from (suc number) operators in
+    let these = edges_in number 0 operator.inputs in let later = operator_edges (suc number) operators in
     filter-append (to_is op) these later
     ∙ ap (λ ys. ys ++ filter (to_is op) later) (kept_none (to_is op) these
     (All-weaker (LeadsIn number 0) (λ edge. to_is op edge ≡ false) (λ edge leads. let a = leads.0 in ne_eqb edge.to op (λ e. omega (arith, a, e, is)))

@@ -17,7 +17,7 @@ use Rattle.mit_script.specs.Trees.{IsFormed, heads_in}
 use Rattle.mit_script.specs.declared.tree.Script.{Script}
 use Rattle.mit_script.specs.declared.tree.Stmt.{Stmt}
 use Rattle.mit_ssa.specs.PlanFor.{operators_of, ops_from, ops_in, plan_for, plan_of_blocks}
-use Rattle.mit_ssa.specs.Woven.{Place, at_start, left, weave_of, woven_all, woven_blocks}
+use Rattle.mit_ssa.specs.Woven.{WeavePlace, just_left, start_place, weave_of, woven_all, woven_blocks}
 use Rattle.mit_ssa.specs.declared.block.Block.{Block}
 use Rattle.mit_ssa.specs.declared.block.Operator.{Operator}
 use Rattle.mit_ssa.specs.declared.block.Source.{Source}
@@ -76,7 +76,7 @@ numbered_all blocks = each_made (Numbered (Gives plan)) (operators_of blocks) 0 
 
 -- ---- the operators of a script
 
-none_woven : (place : Place) → (woven_all [] place).operator ≡ place.operator
+none_woven : (place : WeavePlace) → (woven_all [] place).operator ≡ place.operator
 unfolding woven_all
 none_woven place = refl
 
@@ -84,16 +84,16 @@ sown_in : (plan : PlanOf) (types : List VarType) (body : List Stmt) → AreSown 
 sown_in plan types body = block_sown (Gives plan) types body
 
 operators_whole : (script : Script) (types : List VarType)
-    → operators_of (woven_blocks script types) ≡ (sown_in (plan_for script types) types script.body).ops at_start
+    → operators_of (woven_blocks script types) ≡ (sown_in (plan_for script types) types script.body).ops start_place
 operators_whole script types =
-    let sown = sown_in (plan_for script types) types script.body in sown.is at_start (left End) ∙ append-nil (sown.ops at_start)
+    let sown = sown_in (plan_for script types) types script.body in sown.is start_place (just_left End) ∙ append-nil (sown.ops start_place)
 
 all_fair : (script : Script) (types : List VarType) → IsFormed script → All (Fair (Gives (plan_for script types))) (operators_of (woven_blocks script types))
 all_fair script types formed =
     let plan = plan_for script types in let sown = sown_in plan types script.body in
     let whole = operators_whole script types in
     subst (λ list. All (Fair (Gives plan)) list) (sym whole)
-    (sown.holds (length script.names) formed.formed at_start
+    (sown.holds (length script.names) formed.formed start_place
     (subst (λ list. Each (Numbered (Gives plan)) 0 list) whole (numbered_all (woven_blocks script types)))
     (λ variable number is. absurd (cc is))).0
 
@@ -102,8 +102,8 @@ first_gives good [] well each = absurd well
 first_gives good (operator ∷ operators) well each = each.0 well
 
 -- of no statements
-nothing_sown : (plan : PlanOf) (types : List VarType) → (sown_in plan types []).ops at_start ≡ []
-nothing_sown plan types = nil_from_length ((sown_in plan types []).ops at_start) (let a = (sown_in plan types []).many at_start in omega (arith, a, none_woven at_start))
+nothing_sown : (plan : PlanOf) (types : List VarType) → (sown_in plan types []).ops start_place ≡ []
+nothing_sown plan types = nil_from_length ((sown_in plan types []).ops start_place) (let a = (sown_in plan types []).many start_place in omega (arith, a, none_woven start_place))
 
 -- there is no operator, or the first one is no write
 zero_gives : (script : Script) (types : List VarType) → IsFormed script → checked script ≡ Ok types
@@ -115,13 +115,13 @@ zero_gives script types formed accepted =
     plan : PlanOf
     plan = plan_for script types
 
-    nothing : (body : List Stmt) → body ≡ [] → (sown_in plan types body).ops at_start ≡ []
-    nothing body none = ap (λ some. (sown_in plan types some).ops at_start) none ∙ nothing_sown plan types
+    nothing : (body : List Stmt) → body ≡ [] → (sown_in plan types body).ops start_place ≡ []
+    nothing body none = ap (λ some. (sown_in plan types some).ops start_place) none ∙ nothing_sown plan types
 
     first : Starts (flat_map heads_in script.body) → Gives plan 0
     first starts =
         let sown = sown_in plan types script.body in
-        first_gives (Gives plan) (sown.ops at_start) (sown.starts (length script.names) formed.formed starts at_start)
+        first_gives (Gives plan) (sown.ops start_place) (sown.starts (length script.names) formed.formed starts start_place)
         (subst (λ list. Each (Numbered (Gives plan)) 0 list) (operators_whole script types) (numbered_all (woven_blocks script types)))
 
 sources_give : (plan : PlanOf) (operators : List Operator) → (operators ≡ []) ⊎ Gives plan 0 → All (Fair (Gives plan)) operators

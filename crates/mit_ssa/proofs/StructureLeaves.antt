@@ -14,7 +14,7 @@ use Rattle.mit_script.specs.declared.tree.Stmt.{Stmt, roll-Stmt}
 use Rattle.mit_script.specs.declared.tree.Stmt.TheFolds.{fold-roll-Stmt, ind-Stmt, map-Stmt}
 use Rattle.mit_script.specs.declared.tree.Stmt.TheOpen.{Stmt-F}
 use Rattle.mit_script.specs.declared.tree.Stmt.TheOpen as layer
-use Rattle.mit_ssa.specs.Woven.{Place, Stretch, Weave, adds, after, all_of, branched, done, join_phis, left, looped, phis_of, preceded, weave_of, weave_step, woven_all}
+use Rattle.mit_ssa.specs.Woven.{Weave, WeavePlace, WovenStretch, done, join_phis, just_left, operators_first, phis_of, place_after, stretch_blocks, weave_adds, weave_of, weave_step, woven_all, woven_branch, woven_loop}
 use Rattle.mit_ssa.specs.declared.block.Block.{Block}
 use Rattle.mit_ssa.proofs.StructureEach.{Each, each_back, each_from, each_front, each_join}
 use Rattle.mit_ssa.proofs.StructurePlaces.{in_body, in_false, in_true, join_after}
@@ -38,22 +38,22 @@ pub record Good (at : ℕ → Leave) (most : ℕ) (reached : ℕ → Type 0) (nu
 pub record Laid (at : ℕ → Leave) (most : ℕ) (reached : ℕ → Type 0) (weave : Weave) : Type 0 where
   pub leaves : ℕ → List Leave
   pub many : (block : ℕ) → length (leaves block) ≡ weave.added
-  pub is : (place : Place) (stretch : Stretch)
-      → leaves_of (all_of ((weave.weave place).onto stretch)) ≡ leaves place.block ++ leaves_of (all_of stretch)
+  pub is : (place : WeavePlace) (stretch : WovenStretch)
+      → leaves_of (stretch_blocks ((weave.weave place).onto stretch)) ≡ leaves place.block ++ leaves_of (stretch_blocks stretch)
   pub go_on : (block : ℕ) → count_by is_end (leaves block) ≡ 0
   pub holds : (block : ℕ) → block + weave.added < most → Each (λ number leave. at number ≡ leave) block (leaves block) → reached block
       → Each (Good at most reached) block (leaves block) × reached (block + weave.added)
 
 pub record AreLaid (at : ℕ → Leave) (most : ℕ) (reached : ℕ → Type 0) (weaves : List Weave) : Type 0 where
   pub leaves : ℕ → List Leave
-  pub many : (block : ℕ) → length (leaves block) ≡ adds weaves
-  pub is : (place : Place) (stretch : Stretch)
-      → leaves_of (all_of ((woven_all weaves place).onto stretch)) ≡ leaves place.block ++ leaves_of (all_of stretch)
+  pub many : (block : ℕ) → length (leaves block) ≡ weave_adds weaves
+  pub is : (place : WeavePlace) (stretch : WovenStretch)
+      → leaves_of (stretch_blocks ((woven_all weaves place).onto stretch)) ≡ leaves place.block ++ leaves_of (stretch_blocks stretch)
   pub go_on : (block : ℕ) → count_by is_end (leaves block) ≡ 0
-  pub holds : (block : ℕ) → block + adds weaves < most → Each (λ number leave. at number ≡ leave) block (leaves block) → reached block
-      → Each (Good at most reached) block (leaves block) × reached (block + adds weaves)
+  pub holds : (block : ℕ) → block + weave_adds weaves < most → Each (λ number leave. at number ≡ leave) block (leaves block) → reached block
+      → Each (Good at most reached) block (leaves block) × reached (block + weave_adds weaves)
 
-added-cons : (weave : Weave) (weaves : List Weave) → adds (weave ∷ weaves) ≡ weave.added + adds weaves
+added-cons : (weave : Weave) (weaves : List Weave) → weave_adds (weave ∷ weaves) ≡ weave.added + weave_adds weaves
 added-cons weave weaves = sum_by-cons (λ (n : ℕ). n) weave.added (map (λ (one : Weave). one.added) weaves)
 
 last-append : (xs ys : List Leave) → count_by is_end (xs ++ ys) ≡ count_by is_end xs + count_by is_end ys
@@ -76,7 +76,7 @@ module _ (at : ℕ → Leave) (most : ℕ) (reached : ℕ → Type 0) (closed : 
     many = λ block. refl;
     is = λ place stretch. refl;
     go_on = λ block. refl;
-    holds = λ block less stands comes. (tt, let e : block ≡ block + adds [] = omega arith in subst reached e comes);
+    holds = λ block less stands comes. (tt, let e : block ≡ block + weave_adds [] = omega arith in subst reached e comes);
   }
 
   more_laid : (weave : Weave) (weaves : List Weave) → Laid at most reached weave → AreLaid at most reached weaves → AreLaid at most reached (weave ∷ weaves)
@@ -89,19 +89,19 @@ module _ (at : ℕ → Leave) (most : ℕ) (reached : ℕ → Type 0) (closed : 
             let b = length-append (first.leaves block) (later.leaves (block + weave.added)) in
             let c = first.many block in let d = later.many (block + weave.added) in omega (arith, a, b, c, d);
         is = λ place stretch.
-            let next = after place weave (weave.weave place) in
+            let next = place_after place weave (weave.weave place) in
             first.is place ((woven_all weaves next).onto stretch)
             ∙ ap (λ list. first.leaves place.block ++ list) (later.is next stretch)
-            ∙ sym (append_assoc (first.leaves place.block) (later.leaves (place.block + weave.added)) (leaves_of (all_of stretch)));
+            ∙ sym (append_assoc (first.leaves place.block) (later.leaves (place.block + weave.added)) (leaves_of (stretch_blocks stretch)));
         go_on = λ block.
             let b = last-append (first.leaves block) (later.leaves (block + weave.added)) in
             let c = first.go_on block in let d = later.go_on (block + weave.added) in omega (arith, b, c, d);
         holds = λ block less stands comes.
             let one = first.leaves block in let two = later.leaves (block + weave.added) in let b = first.many block in
             let near : block + weave.added < most = omega (arith, a, less) in
-            let far : block + weave.added + adds weaves < most = omega (arith, a, less) in
+            let far : block + weave.added + weave_adds weaves < most = omega (arith, a, less) in
             let same : block + length one ≡ block + weave.added = omega (arith, b) in
-            let end : block + weave.added + adds weaves ≡ block + adds (weave ∷ weaves) = omega (arith, a) in
+            let end : block + weave.added + weave_adds weaves ≡ block + weave_adds (weave ∷ weaves) = omega (arith, a) in
             let front = first.holds block near (each_front Stands one two block stands) comes in
             let back = later.holds (block + weave.added) far
             (each_from Stands two (block + length one) (block + weave.added) same (each_back Stands one two block stands)) front.1 in (
@@ -125,7 +125,7 @@ module _ (at : ℕ → Leave) (most : ℕ) (reached : ℕ → Type 0) (closed : 
   abbrev part : (weaves : List Weave) → AreLaid at most reached weaves → ℕ → ℕ → List Leave
   part weaves laid block to = laid.leaves block ++ Jump to ∷ []
 
-  length-part : (weaves : List Weave) (laid : AreLaid at most reached weaves) (block to : ℕ) → length (part weaves laid block to) ≡ adds weaves + 1
+  length-part : (weaves : List Weave) (laid : AreLaid at most reached weaves) (block to : ℕ) → length (part weaves laid block to) ≡ weave_adds weaves + 1
   length-part weaves laid block to =
       let a = length-append (laid.leaves block) (Jump to ∷ []) in let b = laid.many block in omega (arith, a, b)
 
@@ -133,22 +133,22 @@ module _ (at : ℕ → Leave) (most : ℕ) (reached : ℕ → Type 0) (closed : 
   part_goes_on weaves laid block to =
       let a = last-append (laid.leaves block) (Jump to ∷ []) in let b = laid.go_on block in let c = last-cons (Jump to) [] in omega (arith, a, b, c)
 
-  part_laid : (weaves : List Weave) (laid : AreLaid at most reached weaves) (block to : ℕ) → block + adds weaves < most → to < most
-      → JumpsOn at most (block + adds weaves) (Jump to) → Each Stands block (part weaves laid block to) → reached block
+  part_laid : (weaves : List Weave) (laid : AreLaid at most reached weaves) (block to : ℕ) → block + weave_adds weaves < most → to < most
+      → JumpsOn at most (block + weave_adds weaves) (Jump to) → Each Stands block (part weaves laid block to) → reached block
       → Each (Good at most reached) block (part weaves laid block to) × reached to
   part_laid weaves laid block to less within jumps stands comes =
       let list = laid.leaves block in let a = laid.many block in
-      let same : block + length list ≡ block + adds weaves = omega (arith, a) in
+      let same : block + length list ≡ block + weave_adds weaves = omega (arith, a) in
       let inside = laid.holds block less (each_front Stands list (Jump to ∷ []) block stands) comes in
-      let last = each_from Stands (Jump to ∷ []) (block + length list) (block + adds weaves) same (each_back Stands list (Jump to ∷ []) block stands) in
-      let good : Good at most reached (block + adds weaves) (Jump to) = record {
+      let last = each_from Stands (Jump to ∷ []) (block + length list) (block + weave_adds weaves) same (each_back Stands list (Jump to ∷ []) block stands) in
+      let good : Good at most reached (block + weave_adds weaves) (Jump to) = record {
         below = All-cons (λ next. next < most) to [] within (All-nil (λ next. next < most));
         jumps = jumps;
         comes = inside.1;
       } in (
         each_join (Good at most reached) list (Jump to ∷ []) block inside.0
-            (each_from (Good at most reached) (Jump to ∷ []) (block + adds weaves) (block + length list) (sym same) (good, tt)),
-        steps (block + adds weaves) to (Jump to) last.0 inside.1 (0, omega arith, refl),
+            (each_from (Good at most reached) (Jump to ∷ []) (block + weave_adds weaves) (block + length list) (sym same) (good, tt)),
+        steps (block + weave_adds weaves) to (Jump to) last.0 inside.1 (0, omega arith, refl),
       )
 
   -- ---- an `if`
@@ -157,9 +157,9 @@ module _ (at : ℕ → Leave) (most : ℕ) (reached : ℕ → Type 0) (closed : 
       → AreLaid at most reached on_true → AreLaid at most reached on_false
       → Laid at most reached (record {
         count = count;
-        added = 3 + adds on_true + adds on_false;
+        added = 3 + weave_adds on_true + weave_adds on_false;
         assigns = assigns;
-        weave = branched types operator args on_true on_false;
+        weave = woven_branch types operator args on_true on_false;
       })
   if_laid types operator args on_true on_false count assigns first second = record {
     leaves = λ block. branch block ∷ (one block ++ two block);
@@ -169,15 +169,15 @@ module _ (at : ℕ → Leave) (most : ℕ) (reached : ℕ → Type 0) (closed : 
         omega (arith, a, b, c);
     is = λ place stretch.
         let inside = in_true place in let beside = in_false on_true place in
-        let xs = all_of ((woven_all on_true inside).onto (left (Jump (join place.block)))) in
-        let ys = all_of ((woven_all on_false beside).onto (left (Jump (join place.block)))) in
+        let xs = stretch_blocks ((woven_all on_true inside).onto (just_left (Jump (join place.block)))) in
+        let ys = stretch_blocks ((woven_all on_false beside).onto (just_left (Jump (join place.block)))) in
         let phis = phis_of (woven_all on_true inside).defined (woven_all on_false beside).defined
         (join_phis (length types) on_true on_false (woven_all on_true inside).defined (woven_all on_false beside).defined) in
         ap (λ list. branch place.block ∷ list)
-        (map-append (λ (block : Block). block.leave) (xs ++ ys) (all_of (preceded phis stretch))
-        ∙ ap (λ list. list ++ leaves_of (all_of stretch))
+        (map-append (λ (block : Block). block.leave) (xs ++ ys) (stretch_blocks (operators_first phis stretch))
+        ∙ ap (λ list. list ++ leaves_of (stretch_blocks stretch))
         (map-append (λ (block : Block). block.leave) xs ys
-        ∙ ap₂ (λ (list more : List Leave). list ++ more) (first.is inside (left (Jump (join place.block)))) (second.is beside (left (Jump (join place.block))))));
+        ∙ ap₂ (λ (list more : List Leave). list ++ more) (first.is inside (just_left (Jump (join place.block)))) (second.is beside (just_left (Jump (join place.block))))));
     go_on = λ block.
         let a = last-cons (branch block) (one block ++ two block) in let b = last-append (one block) (two block) in
         let c = part_goes_on on_true first (block + 1) (join block) in let d = part_goes_on on_false second (other block) (join block) in
@@ -198,7 +198,7 @@ module _ (at : ℕ → Leave) (most : ℕ) (reached : ℕ → Type 0) (closed : 
           jumps = tt;
           comes = comes;
         } in
-        let end : join block ≡ block + (3 + adds on_true + adds on_false) = omega arith in (
+        let end : join block ≡ block + (3 + weave_adds on_true + weave_adds on_false) = omega arith in (
           (
             good,
             each_join (Good at most reached) (one block) (two block) (suc block)
@@ -210,7 +210,7 @@ module _ (at : ℕ → Leave) (most : ℕ) (reached : ℕ → Type 0) (closed : 
   }
     where
       other : ℕ → ℕ
-      other block = block + 2 + adds on_true
+      other block = block + 2 + weave_adds on_true
 
       join : ℕ → ℕ
       join block = join_after on_true on_false block
@@ -228,15 +228,15 @@ module _ (at : ℕ → Leave) (most : ℕ) (reached : ℕ → Type 0) (closed : 
 
   while_laid : (types : List VarType) (operator : OpSpec) (args : List ℕ) (body : List Weave) (count : ℕ) (assigns : ℕ → Bool)
       → AreLaid at most reached body
-      → Laid at most reached (record { count = count; added = 3 + adds body; assigns = assigns; weave = looped types operator args body })
+      → Laid at most reached (record { count = count; added = 3 + weave_adds body; assigns = assigns; weave = woven_loop types operator args body })
   while_laid types operator args body count assigns laid = record {
     leaves = λ block. Jump (block + 1) ∷ branch block ∷ inner block;
     many = λ block. let a = length-part body laid (block + 2) (block + 1) in omega (arith, a);
     is = λ place stretch.
-        let xs = all_of ((woven_all body (in_body types body place)).onto (left (Jump (place.block + 1)))) in
+        let xs = stretch_blocks ((woven_all body (in_body types body place)).onto (just_left (Jump (place.block + 1)))) in
         ap (λ list. Jump (place.block + 1) ∷ branch place.block ∷ list)
-        (map-append (λ (block : Block). block.leave) xs (all_of stretch)
-        ∙ ap (λ list. list ++ leaves_of (all_of stretch)) (laid.is (in_body types body place) (left (Jump (place.block + 1)))));
+        (map-append (λ (block : Block). block.leave) xs (stretch_blocks stretch)
+        ∙ ap (λ list. list ++ leaves_of (stretch_blocks stretch)) (laid.is (in_body types body place) (just_left (Jump (place.block + 1)))));
     go_on = λ block.
         let a = last-cons (Jump (block + 1)) (branch block ∷ inner block) in let b = last-cons (branch block) (inner block) in
         let c = part_goes_on body laid (block + 2) (block + 1) in omega (arith, a, b, c);
@@ -261,12 +261,12 @@ module _ (at : ℕ → Leave) (most : ℕ) (reached : ℕ → Type 0) (closed : 
           jumps = tt;
           comes = subst reached (sym near) comes_header;
         } in
-        let end : exit block ≡ block + (3 + adds body) = omega arith in
+        let end : exit block ≡ block + (3 + weave_adds body) = omega arith in
         ((entered, (decided, each_from (Good at most reached) (inner block) (block + 2) (suc (suc block)) (sym far) turn.0)), subst reached end comes_exit);
   }
     where
       exit : ℕ → ℕ
-      exit block = block + 3 + adds body
+      exit block = block + 3 + weave_adds body
 
       branch : ℕ → Leave
       branch block = Branch (block + 2) (exit block)

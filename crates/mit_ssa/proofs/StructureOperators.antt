@@ -16,7 +16,7 @@ use Rattle.mit_script.specs.declared.tree.Stmt.TheFolds.{fold-roll-Stmt, ind-Stm
 use Rattle.mit_script.specs.declared.tree.Stmt.TheOpen.{Stmt-F}
 use Rattle.mit_script.specs.declared.tree.Stmt.TheOpen as layer
 use Rattle.mit_ssa.specs.PlanFor.{operators_of}
-use Rattle.mit_ssa.specs.Woven.{Defined, Place, Stretch, Weave, after, all_of, branched, defining, definition_of, done, inputs_from, join_phis, left, loop_phis, looped, on_both, operand_of, operator_of, phi_of, phis_of, preceded, weave_of, weave_step, with_phis, woven_all}
+use Rattle.mit_ssa.specs.Woven.{Defined, Weave, WeavePlace, WovenStretch, defined_operand, defining, definition_of, done, inputs_from, join_phis, just_left, loop_phis, on_both, operator_of, operators_first, phi_of, phis_of, place_after, stretch_blocks, weave_of, weave_step, with_phis, woven_all, woven_branch, woven_loop}
 use Rattle.mit_ssa.specs.declared.block.Block.{Block}
 use Rattle.mit_ssa.specs.declared.block.Operator.{Operator}
 use Rattle.mit_ssa.specs.declared.block.Source.{Source}
@@ -98,8 +98,8 @@ operator_fair good types defined statement operator args variables formed all = 
 phi_fair : (good : ℕ → Type 0) (one other : Defined) → AreGood good one → AreGood good other → (variable : ℕ) → Fair good (phi_of one other variable)
 phi_fair good one other first second variable = record {
   form = inl (refl, refl, refl);
-  sources = All-cons (ComesFrom good) (operand_of one variable) (operand_of other variable ∷ []) (comes_from good one variable first)
-      (All-cons (ComesFrom good) (operand_of other variable) [] (comes_from good other variable second) (All-nil (ComesFrom good)));
+  sources = All-cons (ComesFrom good) (defined_operand one variable) (defined_operand other variable ∷ []) (comes_from good one variable first)
+      (All-cons (ComesFrom good) (defined_operand other variable) [] (comes_from good other variable second) (All-nil (ComesFrom good)));
 }
 
 phis_fair : (good : ℕ → Type 0) (one other : Defined) → AreGood good one → AreGood good other → (phis : List ℕ) → All (Fair good) (phis_of one other phis)
@@ -170,22 +170,22 @@ well_front (operator ∷ operators) more well = well
 
 -- the operators that a statement, or some, add to the current block and to those after it
 pub record Sown (good : ℕ → Type 0) (weave : Weave) (heads : List Head) : Type 0 where
-  pub ops : Place → List Operator
-  pub is : (place : Place) (stretch : Stretch)
-      → operators_of (all_of ((weave.weave place).onto stretch)) ≡ ops place ++ operators_of (all_of stretch)
-  pub many : (place : Place) → place.operator + length (ops place) ≡ (weave.weave place).operator
+  pub ops : WeavePlace → List Operator
+  pub is : (place : WeavePlace) (stretch : WovenStretch)
+      → operators_of (stretch_blocks ((weave.weave place).onto stretch)) ≡ ops place ++ operators_of (stretch_blocks stretch)
+  pub many : (place : WeavePlace) → place.operator + length (ops place) ≡ (weave.weave place).operator
   pub some : IsSome heads
-  pub starts : (variables : ℕ) → All (IsFormedHead variables) heads → Starts heads → (place : Place) → StartsWell (ops place)
-  pub holds : (variables : ℕ) → All (IsFormedHead variables) heads → (place : Place) → Each (Numbered good) place.operator (ops place)
+  pub starts : (variables : ℕ) → All (IsFormedHead variables) heads → Starts heads → (place : WeavePlace) → StartsWell (ops place)
+  pub holds : (variables : ℕ) → All (IsFormedHead variables) heads → (place : WeavePlace) → Each (Numbered good) place.operator (ops place)
       → AreGood good place.defined → All (Fair good) (ops place) × AreGood good (weave.weave place).defined
 
 pub record AreSown (good : ℕ → Type 0) (weaves : List Weave) (heads : List Head) : Type 0 where
-  pub ops : Place → List Operator
-  pub is : (place : Place) (stretch : Stretch)
-      → operators_of (all_of ((woven_all weaves place).onto stretch)) ≡ ops place ++ operators_of (all_of stretch)
-  pub many : (place : Place) → place.operator + length (ops place) ≡ (woven_all weaves place).operator
-  pub starts : (variables : ℕ) → All (IsFormedHead variables) heads → Starts heads → (place : Place) → StartsWell (ops place)
-  pub holds : (variables : ℕ) → All (IsFormedHead variables) heads → (place : Place) → Each (Numbered good) place.operator (ops place)
+  pub ops : WeavePlace → List Operator
+  pub is : (place : WeavePlace) (stretch : WovenStretch)
+      → operators_of (stretch_blocks ((woven_all weaves place).onto stretch)) ≡ ops place ++ operators_of (stretch_blocks stretch)
+  pub many : (place : WeavePlace) → place.operator + length (ops place) ≡ (woven_all weaves place).operator
+  pub starts : (variables : ℕ) → All (IsFormedHead variables) heads → Starts heads → (place : WeavePlace) → StartsWell (ops place)
+  pub holds : (variables : ℕ) → All (IsFormedHead variables) heads → (place : WeavePlace) → Each (Numbered good) place.operator (ops place)
       → AreGood good place.defined → All (Fair good) (ops place) × AreGood good (woven_all weaves place).defined
 
 pub all_front : {A : Type 0} (P : A → Type 0) (xs ys : List A) → All P (xs ++ ys) → All P xs
@@ -214,7 +214,7 @@ more_sown good weave weaves heads others first later = record {
   is = λ place stretch.
       first.is place ((woven_all weaves (next place)).onto stretch)
       ∙ ap (λ list. first.ops place ++ list) (later.is (next place) stretch)
-      ∙ sym (append_assoc (first.ops place) (later.ops (next place)) (operators_of (all_of stretch)));
+      ∙ sym (append_assoc (first.ops place) (later.ops (next place)) (operators_of (stretch_blocks stretch)));
   many = λ place.
       let a = length-append (first.ops place) (later.ops (next place)) in
       let b = first.many place in let c = later.many (next place) in omega (arith, a, b, c);
@@ -230,10 +230,10 @@ more_sown good weave weaves heads others first later = record {
       (All-append (Fair good) one two front.0 back.0, back.1);
 }
   where
-    next : Place → Place
-    next place = after place weave (weave.weave place)
+    next : WeavePlace → WeavePlace
+    next place = place_after place weave (weave.weave place)
 
-preceded_are : (operators : List Operator) (stretch : Stretch) → operators_of (all_of (preceded operators stretch)) ≡ operators ++ operators_of (all_of stretch)
+preceded_are : (operators : List Operator) (stretch : WovenStretch) → operators_of (stretch_blocks (operators_first operators stretch)) ≡ operators ++ operators_of (stretch_blocks stretch)
 preceded_are operators stretch = append_assoc operators stretch.first.operators (operators_of stretch.later)
 
 assign_sown : (good : ℕ → Type 0) (types : List VarType) (target : ℕ) (operator : OpSpec) (args : List ℕ) (defines : ℕ → Bool)
@@ -270,9 +270,9 @@ write_sown good types operator args defines = record {
 }
 
 -- the operators of statements inside, which end with a jump
-part_is : (good : ℕ → Type 0) (weaves : List Weave) (heads : List Head) (sown : AreSown good weaves heads) (place : Place) (to : ℕ)
-    → operators_of (all_of ((woven_all weaves place).onto (left (Jump to)))) ≡ sown.ops place
-part_is good weaves heads sown place to = sown.is place (left (Jump to)) ∙ append-nil (sown.ops place)
+part_is : (good : ℕ → Type 0) (weaves : List Weave) (heads : List Head) (sown : AreSown good weaves heads) (place : WeavePlace) (to : ℕ)
+    → operators_of (stretch_blocks ((woven_all weaves place).onto (just_left (Jump to)))) ≡ sown.ops place
+part_is good weaves heads sown place to = sown.is place (just_left (Jump to)) ∙ append-nil (sown.ops place)
 
 length-phis : (one other : Defined) (phis : List ℕ) → length (phis_of one other phis) ≡ length phis
 length-phis one other phis = length-map phis (phi_of one other)
@@ -281,21 +281,21 @@ length-phis one other phis = length-map phis (phi_of one other)
 
 if_sown : (good : ℕ → Type 0) (types : List VarType) (operator : OpSpec) (args : List ℕ) (on_true on_false : List Weave) (heads others : List Head)
     (count added : ℕ) (defines : ℕ → Bool) → AreSown good on_true heads → AreSown good on_false others
-    → Sown good (record { count = count; added = added; assigns = defines; weave = branched types operator args on_true on_false })
+    → Sown good (record { count = count; added = added; assigns = defines; weave = woven_branch types operator args on_true on_false })
     (decides operator args ∷ (heads ++ others))
 if_sown good types operator args on_true on_false heads others count added defines first second = record {
   ops = λ place. condition place ∷ (one place ++ two place ++ phis place);
   is = λ place stretch.
-      let xs = all_of ((woven_all on_true (in_true place)).onto (left (Jump (join_after on_true on_false place.block)))) in
-      let ys = all_of ((woven_all on_false (in_false on_true place)).onto (left (Jump (join_after on_true on_false place.block)))) in
+      let xs = stretch_blocks ((woven_all on_true (in_true place)).onto (just_left (Jump (join_after on_true on_false place.block)))) in
+      let ys = stretch_blocks ((woven_all on_false (in_false on_true place)).onto (just_left (Jump (join_after on_true on_false place.block)))) in
       ap (λ list. condition place ∷ list)
-      (flat_map-append (λ (block : Block). block.operators) (xs ++ ys) (all_of (preceded (phis place) stretch))
+      (flat_map-append (λ (block : Block). block.operators) (xs ++ ys) (stretch_blocks (operators_first (phis place) stretch))
       ∙ ap₂ (λ (list more : List Operator). list ++ more)
       (flat_map-append (λ (block : Block). block.operators) xs ys
       ∙ ap₂ (λ (list more : List Operator). list ++ more)
       (part_is good on_true heads first (in_true place) (join_after on_true on_false place.block)) (part_is good on_false others second (in_false on_true place) (join_after on_true on_false place.block)))
       (preceded_are (phis place) stretch)
-      ∙ sym (append_assoc (one place ++ two place) (phis place) (operators_of (all_of stretch))));
+      ∙ sym (append_assoc (one place ++ two place) (phis place) (operators_of (stretch_blocks stretch))));
   many = λ place.
       let a = length-append (one place ++ two place) (phis place) in let b = length-append (one place) (two place) in
       let c = first.many (in_true place) in let d = second.many (in_false on_true place) in let e = length-phis (defined_one place) (defined_two place) (joined place) in
@@ -326,43 +326,43 @@ if_sown good types operator args on_true on_false heads others count added defin
       );
 }
   where
-    condition : Place → Operator
+    condition : WeavePlace → Operator
     condition place = operator_of types place.defined place.statement operator args
 
-    one : Place → List Operator
+    one : WeavePlace → List Operator
     one place = first.ops (in_true place)
 
-    two : Place → List Operator
+    two : WeavePlace → List Operator
     two place = second.ops (in_false on_true place)
 
-    defined_one : Place → Defined
+    defined_one : WeavePlace → Defined
     defined_one place = (woven_all on_true (in_true place)).defined
 
-    defined_two : Place → Defined
+    defined_two : WeavePlace → Defined
     defined_two place = (woven_all on_false (in_false on_true place)).defined
 
-    last : Place → ℕ
+    last : WeavePlace → ℕ
     last place = (woven_all on_false (in_false on_true place)).operator
 
-    joined : Place → List ℕ
+    joined : WeavePlace → List ℕ
     joined place = join_phis (length types) on_true on_false (defined_one place) (defined_two place)
 
-    phis : Place → List Operator
+    phis : WeavePlace → List Operator
     phis place = phis_of (defined_one place) (defined_two place) (joined place)
 
 -- ---- a `while`
 
 while_sown : (good : ℕ → Type 0) (types : List VarType) (operator : OpSpec) (args : List ℕ) (body : List Weave) (inner : List Head)
     (count added : ℕ) (defines : ℕ → Bool) → AreSown good body inner
-    → Sown good (record { count = count; added = added; assigns = defines; weave = looped types operator args body }) (decides operator args ∷ inner)
+    → Sown good (record { count = count; added = added; assigns = defines; weave = woven_loop types operator args body }) (decides operator args ∷ inner)
 while_sown good types operator args body inner count added defines sown = record {
   ops = λ place. phis place ++ condition place ∷ [] ++ turn place;
   is = λ place stretch.
-      let xs = all_of ((woven_all body (in_body types body place)).onto (left (Jump (place.block + 1)))) in
+      let xs = stretch_blocks ((woven_all body (in_body types body place)).onto (just_left (Jump (place.block + 1)))) in
       ap (λ list. (phis place ++ condition place ∷ []) ++ list)
-      (flat_map-append (λ (block : Block). block.operators) xs (all_of stretch)
-      ∙ ap (λ list. list ++ operators_of (all_of stretch)) (part_is good body inner sown (in_body types body place) (place.block + 1)))
-      ∙ sym (append_assoc (phis place ++ condition place ∷ []) (turn place) (operators_of (all_of stretch)));
+      (flat_map-append (λ (block : Block). block.operators) xs (stretch_blocks stretch)
+      ∙ ap (λ list. list ++ operators_of (stretch_blocks stretch)) (part_is good body inner sown (in_body types body place) (place.block + 1)))
+      ∙ sym (append_assoc (phis place ++ condition place ∷ []) (turn place) (operators_of (stretch_blocks stretch)));
   many = λ place.
       let a = length-append (phis place ++ condition place ∷ []) (turn place) in let b = length-append (phis place) (condition place ∷ []) in
       let c = sown.many (in_body types body place) in let d = length-phis place.defined (defined_turn place) (turned place) in
@@ -390,25 +390,25 @@ while_sown good types operator args body inner count added defines sown = record
       );
 }
   where
-    turned : Place → List ℕ
+    turned : WeavePlace → List ℕ
     turned place = loop_phis (length types) body place.defined
 
-    inside_of : Place → Defined
+    inside_of : WeavePlace → Defined
     inside_of place = with_phis place.defined place.operator (turned place)
 
-    condition : Place → Operator
+    condition : WeavePlace → Operator
     condition place = operator_of types (inside_of place) place.statement operator args
 
-    turn : Place → List Operator
+    turn : WeavePlace → List Operator
     turn place = sown.ops (in_body types body place)
 
-    defined_turn : Place → Defined
+    defined_turn : WeavePlace → Defined
     defined_turn place = (woven_all body (in_body types body place)).defined
 
-    phis : Place → List Operator
+    phis : WeavePlace → List Operator
     phis place = phis_of place.defined (defined_turn place) (turned place)
 
-    well : (variables : List ℕ) (place : Place) → kind_of operator ≢ 14
+    well : (variables : List ℕ) (place : WeavePlace) → kind_of operator ≢ 14
         → StartsWell (phis_of place.defined (defined_turn place) variables ++ condition place ∷ [])
     well [] place differs = differs
     well (variable ∷ variables) place differs = copy_no_write

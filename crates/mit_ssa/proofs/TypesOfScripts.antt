@@ -5,10 +5,10 @@ use Rattle.mit_ops.specs.declared.leave.Leave.TheVariants.{End}
 use Rattle.mit_ops.specs.declared.types.VarType.{VarType}
 use Rattle.mit_plan.specs.Types.{type_at}
 use Rattle.mit_plan.specs.Valid.{BranchesDecide, HasTypes, RoutesFit}
-use Rattle.mit_script.specs.Accepted.{Known, at_start as known_at_start, check_of, checked, first_type, in_order, is_assigned, type_or_unset, unset}
+use Rattle.mit_script.specs.Accepted.{Known, at_start, check_of, checked, first_type, in_order, is_assigned, type_or_unset, unset}
 use Rattle.mit_script.specs.declared.tree.Script.{Script}
 use Rattle.mit_ssa.specs.PlanFor.{operators_of, plan_for}
-use Rattle.mit_ssa.specs.Woven.{at_start, left, weave_of, woven_all, woven_blocks}
+use Rattle.mit_ssa.specs.Woven.{just_left, start_place, weave_of, woven_all, woven_blocks}
 use Rattle.mit_ssa.specs.declared.block.Block.{Block}
 use Rattle.mit_ssa.proofs.DefinitionsOfScripts.{Ends, ends_with, map_length, none_assigned, start_ready}
 use Rattle.mit_ssa.proofs.DefinitionsNumbered.{ops_length}
@@ -19,12 +19,12 @@ use Rattle.mit_ssa.proofs.TypesPlan.{branches_decide, decided_in, has_types, rou
 
 -- ---- the start
 
-found_none : (names : List (List ℕ)) (variable : ℕ) → first_type (known_at_start names) variable ≡ None
+found_none : (names : List (List ℕ)) (variable : ℕ) → first_type (at_start names) variable ≡ None
 found_none [] variable = refl
 found_none (name ∷ names) zero = refl
 found_none (name ∷ names) (suc variable) = found_none names variable
 
-start_firsts : (names : List (List ℕ)) (variables : ℕ) → length names ≡ variables → Firsts variables (known_at_start names)
+start_firsts : (names : List (List ℕ)) (variables : ℕ) → length names ≡ variables → Firsts variables (at_start names)
 start_firsts names variables many = record {
   many = map_length (λ name. None) names ∙ many;
   sized = map_length (λ name. false) names ∙ many;
@@ -69,24 +69,24 @@ has_kinds : (script : Script) (types : List VarType) → checked script ≡ Ok t
 unfolding TypedBlocks TypedOps
 has_kinds script types accepted = record {
   kinds = typed.kinds;
-  typed = typed.carries look given none (left End) (length typed.kinds)
+  typed = typed.carries look given none (just_left End) (length typed.kinds)
       (tt, ((λ branch. absurd (no_branch branch)), (let e = typed.many in omega (arith, e))));
 }
   where
-    ended : Ends script.names (in_order (map check_of script.body) (known_at_start script.names)) types
-    ended = ends_with script.names (in_order (map check_of script.body) (known_at_start script.names)) types accepted
+    ended : Ends script.names (in_order (map check_of script.body) (at_start script.names)) types
+    ended = ends_with script.names (in_order (map check_of script.body) (at_start script.names)) types accepted
 
     many : length script.names ≡ length types
     many =
-        let a = (block_typed types script.body).grows (known_at_start script.names) ended.last ended.is in
+        let a = (block_typed types script.body).grows (at_start script.names) ended.last ended.is in
         let b = a.many in
         let c = map_length type_or_unset ended.last.types in
         let d = ap (λ (ts : List VarType). length ts) ended.types_are in
         let e = (start_firsts script.names (length script.names) refl).many in
         omega (arith, b, c, d, e)
 
-    typed : Typed types at_start (woven_all (map (weave_of types) script.body) at_start)
-    typed = (block_typed types script.body).typed at_start (known_at_start script.names) ended.last ended.is
+    typed : Typed types start_place (woven_all (map (weave_of types) script.body) start_place)
+    typed = (block_typed types script.body).typed start_place (at_start script.names) ended.last ended.is
         (start_ready script.names (length types) many) (start_firsts script.names (length types) many) (end_agrees types ended.last ended.types_are)
 
     look : Looks

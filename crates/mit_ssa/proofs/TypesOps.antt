@@ -12,7 +12,7 @@ use Rattle.mit_ops.specs.declared.leave.Leave.TheVariants.{Jump}
 use Rattle.mit_ops.specs.declared.types.VarType.{VarType}
 use Rattle.mit_plan.specs.Valid.{is_branch}
 use Rattle.mit_script.specs.Accepted.{Known, captured_args, is_assigned, type_of}
-use Rattle.mit_ssa.specs.Woven.{Defined, Stretch, Weave, all_of, assigned_in, defining, definition_of, inputs_from, join_phis, left, loop_phis, on_both, operand_of, operator_of, phis_of, preceded, width_of, with_phis}
+use Rattle.mit_ssa.specs.Woven.{Defined, Weave, WovenStretch, assigned_in, defined_operand, defining, definition_of, inputs_from, join_phis, just_left, loop_phis, on_both, operator_of, operators_first, phis_of, stretch_blocks, width_of, with_phis}
 use Rattle.mit_ssa.specs.declared.block.Block.{Block}
 use Rattle.mit_ssa.specs.declared.block.Operator.{Operator}
 use Rattle.mit_ssa.specs.declared.block.Source.{Source}
@@ -63,7 +63,7 @@ pub record IsMeeting (look : Looks) (number : ℕ) (operator : Operator) : Type 
   pub variable : ℕ
   pub first : Defined
   pub second : Defined
-  pub inputs : operator.inputs ≡ operand_of first variable ∷ operand_of second variable ∷ []
+  pub inputs : operator.inputs ≡ defined_operand first variable ∷ defined_operand second variable ∷ []
   pub lower : definition_of first variable < number
   pub first_is : look (definition_of first variable) ≡ look number
   pub second_is : look (definition_of second variable) ≡ look number
@@ -106,8 +106,8 @@ typed_append look number [] ys middle end first second = subst (λ (n : ℕ). Ty
 typed_append look number (x ∷ xs) ys middle end first second =
     (first.0, (first.1.0, typed_append look (number + length x.operators) xs ys middle end first.1.1 second))
 
-pub typed_precede : (look : Looks) (number end : ℕ) (operators : List Operator) (stretch : Stretch) → TypedOps look number operators
-    → TypedBlocks look (number + length operators) (all_of stretch) end → TypedBlocks look number (all_of (preceded operators stretch)) end
+pub typed_precede : (look : Looks) (number end : ℕ) (operators : List Operator) (stretch : WovenStretch) → TypedOps look number operators
+    → TypedBlocks look (number + length operators) (stretch_blocks stretch) end → TypedBlocks look number (stretch_blocks (operators_first operators stretch)) end
 unfolding TypedBlocks
 typed_precede look number end operators stretch first second =
     let e : number + length operators + length stretch.first.operators ≡ number + length (operators ++ stretch.first.operators)
@@ -135,7 +135,7 @@ typed_precede look number end operators stretch first second =
 pub no_branch : false ≡ true → ⊥
 no_branch is = cc
 
-pub typed_left : (look : Looks) (number next : ℕ) → TypedBlocks look number (all_of (left (Jump next))) number
+pub typed_left : (look : Looks) (number next : ℕ) → TypedBlocks look number (stretch_blocks (just_left (Jump next))) number
 unfolding TypedBlocks TypedOps
 typed_left look number next = (tt, ((λ branch. absurd (no_branch branch)), omega arith))
 

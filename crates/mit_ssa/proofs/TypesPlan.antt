@@ -9,11 +9,11 @@ use Rattle.mit_ops.specs.declared.kinds.OpSpec.{OpSpec}
 use Rattle.mit_ops.specs.declared.routes.Route.TheVariants.{Forward}
 use Rattle.mit_ops.specs.declared.types.VarType.{VarType}
 use Rattle.mit_plan.specs.Plans.{PlanOf, block_at, inputs_of, is_phi, no_block, no_edge, no_op, op_at}
-use Rattle.mit_plan.specs.Types.{AreTypes, Fits, HasOperands, IsTyped, source_types, type_at}
+use Rattle.mit_plan.specs.Types.{AreTypes, HasOperands, IsTypedOperator, TypeFits, source_types, type_at}
 use Rattle.mit_plan.specs.Valid.{BranchesDecide, GivesTruth, HasLast, HasTypes, RoutesFit, is_branch, last_of, route_wanted}
 use Rattle.mit_plan.specs.declared.plan.PlanBlock.{PlanBlock}
 use Rattle.mit_plan.specs.declared.plan.PlanOp.{PlanOp}
-use Rattle.mit_ssa.specs.PlanFor.{blocks_from, edges_from, edges_in, operators_of, ops_from, ops_in, plan_of_blocks}
+use Rattle.mit_ssa.specs.PlanFor.{blocks_from, edges_in, operator_edges, operators_of, ops_from, ops_in, plan_of_blocks}
 use Rattle.mit_ssa.specs.declared.block.Block.{Block}
 use Rattle.mit_ssa.specs.declared.block.Operator.{Operator}
 use Rattle.mit_ssa.specs.declared.block.Source.{Source}
@@ -30,7 +30,7 @@ pub record IsOf (op : PlanOp) (operator : Operator) : Type 0 where
   pub phi : op.phi ≡ operator.phi
 
 pub record IsTypedPlan (look : Looks) (plan : PlanOf) (operators : List Operator) : Type 0 where
-  pub edges : plan.edges ≡ edges_from 0 operators
+  pub edges : plan.edges ≡ operator_edges 0 operators
   pub many : length plan.ops ≡ length operators
   pub ops : (op : ℕ) → IsOf (op_at plan op) (get_or operators op no_operator)
   pub typed : (op : ℕ) → op < length operators → TypedOp look op (get_or operators op no_operator)
@@ -77,7 +77,7 @@ two_hold a b c first second = each_all (λ type. type ≡ c) (a ∷ b ∷ []) (f
 -- ---- the types fit
 
 fits : (look : Looks) (plan : PlanOf) (operators : List Operator) (op : ℕ) (types : List VarType) → IsTypedPlan look plan operators → op < length plan.ops
-    → ((n : ℕ) → type_at types n ≡ look n) → Fits plan types op
+    → ((n : ℕ) → type_at types n ≡ look n) → TypeFits plan types op
 fits look plan operators op types typed below same = by_kind (typed.typed op (let e = typed.many in omega (arith, e, below)))
   where
     operator : Operator
@@ -93,8 +93,8 @@ fits look plan operators op types typed below same = by_kind (typed.typed op (le
     bags : bag_inputs_of (op_at plan op).spec ≡ bag_inputs_of operator.spec
     bags = ap bag_inputs_of (typed.ops op).spec
 
-    by_kind : TypedOp look op operator → Fits plan types op
-    by_kind (inl plain) = if_false (HasOperands plan types op) (IsTyped plan types op) (is_phi (op_at plan op)) (phi_of_none (op_at plan op) operator (typed.ops op).phi plain.no_phi) (record {
+    by_kind : TypedOp look op operator → TypeFits plan types op
+    by_kind (inl plain) = if_false (HasOperands plan types op) (IsTypedOperator plan types op) (is_phi (op_at plan op)) (phi_of_none (op_at plan op) operator (typed.ops op).phi plain.no_phi) (record {
       captures = plain.captures;
       scalars = (λ i. drop (bags i) (come i)) ∙ plain.scalars;
       gives = (let s = (typed.ops op).spec in λ i. typed_as (s i) (take (bags i) (come i)) plain.captures)
@@ -103,7 +103,7 @@ fits look plan operators op types typed below same = by_kind (typed.typed op (le
       where
         ok : VarType → Result VarType Refusal
         ok t = Ok t
-    by_kind (inr meeting) = if_true (HasOperands plan types op) (IsTyped plan types op) (is_phi (op_at plan op)) (phi_of_two (op_at plan op) operator (typed.ops op).phi meeting.phi)
+    by_kind (inr meeting) = if_true (HasOperands plan types op) (IsTypedOperator plan types op) (is_phi (op_at plan op)) (phi_of_two (op_at plan op) operator (typed.ops op).phi meeting.phi)
         (subst (All (λ type. type ≡ type_at types op)) (sym (come ∙ ap (source_kinds look) meeting.inputs))
         (two_hold _ _ (type_at types op) (meeting.first_is ∙ sym (same op)) (meeting.second_is ∙ sym (same op))))
 
@@ -149,7 +149,7 @@ one_is look plan operators op types typed are below same = by_kind (typed.typed 
     bags : bag_inputs_of (op_at plan op).spec ≡ bag_inputs_of operator.spec
     bags = ap bag_inputs_of (typed.ops op).spec
 
-    by_plain : IsPlain look op operator → IsTyped plan types op → type_at types op ≡ look op
+    by_plain : IsPlain look op operator → IsTypedOperator plan types op → type_at types op ≡ look op
     by_plain plain is =
         let kinds = come ∙ kinds_below look types op operator.inputs plain.lower same in
         let captures : is.captures ≡ plain.captures
@@ -159,9 +159,9 @@ one_is look plan operators op types typed are below same = by_kind (typed.typed 
 
     by_kind : TypedOp look op operator → type_at types op ≡ look op
     by_kind (inl plain) =
-        by_plain plain (of_false (HasOperands plan types op) (IsTyped plan types op) (is_phi (op_at plan op)) (phi_of_none (op_at plan op) operator (typed.ops op).phi plain.no_phi) (are.each op below))
+        by_plain plain (of_false (HasOperands plan types op) (IsTypedOperator plan types op) (is_phi (op_at plan op)) (phi_of_none (op_at plan op) operator (typed.ops op).phi plain.no_phi) (are.each op below))
     by_kind (inr meeting) =
-        let has = of_true (HasOperands plan types op) (IsTyped plan types op) (is_phi (op_at plan op)) (phi_of_two (op_at plan op) operator (typed.ops op).phi meeting.phi) (are.each op below) in
+        let has = of_true (HasOperands plan types op) (IsTypedOperator plan types op) (is_phi (op_at plan op)) (phi_of_two (op_at plan op) operator (typed.ops op).phi meeting.phi) (are.each op below) in
         let listed = subst (All (λ type. type ≡ type_at types op)) (come ∙ ap (source_kinds (type_at types)) meeting.inputs) has in
         sym (listed 0 (bag []) (omega arith)) ∙ (same _ meeting.lower ∙ meeting.first_is)
 

@@ -7,7 +7,7 @@ use Rattle.mit_ops.specs.Results.{Refusal, same_types}
 use Rattle.mit_ops.specs.declared.kinds.OpSpec.{OpSpec}
 use Rattle.mit_ops.specs.declared.types.TheConstants.{MAX_CAPTURES}
 use Rattle.mit_ops.specs.declared.types.VarType.{VarType}
-use Rattle.mit_script.specs.Accepted.{Fault, Known, and_then, assigned_by, assigned_in_both, assigning, captured_args, decided_by, fault_at, fault_or, first_type, is_assigned, is_condition, is_kept, judged, passed, same_truth, type_of, type_or_unset, typed_by, typed_or_code, unset, with_assigned, written_by}
+use Rattle.mit_script.specs.Accepted.{Fault, Known, and_then, assigned_by, assigned_in_both, assigning, captured_args, decided_by, fault_here, fault_or, first_type, is_assigned, is_condition, is_kept, judged, passed, same_truth, type_of, type_or_unset, typed_by, typed_or_code, unset, with_assigned, written_by}
 use Rattle.mit_script.specs.declared.typed.CheckCode.{CheckCode}
 use Rattle.mit_script.specs.declared.typed.CheckCode.TheVariants.{NotScalar, TooLarge, Unassigned, WrongType}
 use Rattle.mit_ssa.proofs.TypesOne.{IsOne, each_one, one_typed, types_are}
@@ -241,10 +241,10 @@ pub assigns_typed : (target : ℕ) (operator : OpSpec) (args : List ℕ) (known 
 assigns_typed target operator args known known_after is = by_judged (judged known operator args) refl is
   where
     by_judged : (found : Result VarType CheckCode) → judged known operator args ≡ found
-        → and_then (fault_or known found) (λ type. cond (is_kept (first_type known target) type) (Ok (assigning target type known)) (Err (fault_at known WrongType))) ≡ Ok known_after
+        → and_then (fault_or known found) (λ type. cond (is_kept (first_type known target) type) (Ok (assigning target type known)) (Err (fault_here known WrongType))) ≡ Ok known_after
         → AssignsTyped target operator args known known_after
     by_judged (Ok type) found is =
-        let parts = kept_cond (is_kept (first_type known target) type) (assigning target type known) known_after (fault_at known WrongType) is in
+        let parts = kept_cond (is_kept (first_type known target) type) (assigning target type known) known_after (fault_here known WrongType) is in
         record { type = type; judged_is = judged_typed known operator args type found; kept = parts.0; is = parts.1 }
     by_judged (Err code) found is = absurd cc
 
@@ -277,10 +277,10 @@ pub decides_typed : (operator : OpSpec) (args : List ℕ) (known known_after : K
 decides_typed operator args known known_after is = by_judged (judged known operator args) refl is
   where
     by_judged : (found : Result VarType CheckCode) → judged known operator args ≡ found
-        → and_then (fault_or known found) (λ type. cond (is_condition type) (Ok (passed known)) (Err (fault_at known WrongType))) ≡ Ok known_after
+        → and_then (fault_or known found) (λ type. cond (is_condition type) (Ok (passed known)) (Err (fault_here known WrongType))) ≡ Ok known_after
         → DecidesTyped operator args known known_after
     by_judged (Ok type) found is =
-        let parts = kept_cond (is_condition type) (passed known) known_after (fault_at known WrongType) is in
+        let parts = kept_cond (is_condition type) (passed known) known_after (fault_here known WrongType) is in
         record { type = type; judged_is = judged_typed known operator args type found; condition = parts.0; is = parts.1 }
     by_judged (Err code) found is = absurd cc
 

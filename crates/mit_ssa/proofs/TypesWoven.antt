@@ -5,12 +5,12 @@ use Rattle.mit_ops.specs.Results.{same_types, scalar}
 use Rattle.mit_ops.specs.declared.kinds.OpSpec.{OpSpec}
 use Rattle.mit_ops.specs.declared.leave.Leave.TheVariants.{Jump, Branch}
 use Rattle.mit_ops.specs.declared.types.VarType.{VarType}
-use Rattle.mit_script.specs.Accepted.{Check, Fault, Known, assigned_in_both, assigning, branched as branched_check, check_of, check_step, decided_by, first_type, in_order, is_condition, looped as looped_check, passed, same_truth, with_assigned}
+use Rattle.mit_script.specs.Accepted.{Check, Fault, Known, assigned_in_both, assigning, branched, check_of, check_step, decided_by, first_type, in_order, is_condition, looped, passed, same_truth, with_assigned}
 use Rattle.mit_script.specs.declared.tree.Stmt.{Stmt, roll-Stmt}
 use Rattle.mit_script.specs.declared.tree.Stmt.TheFolds.{fold-roll-Stmt, ind-Stmt, map-Stmt}
 use Rattle.mit_script.specs.declared.tree.Stmt.TheOpen.{Stmt-F}
 use Rattle.mit_script.specs.declared.tree.Stmt.TheOpen as layer
-use Rattle.mit_ssa.specs.Woven.{Defined, Place, Stretch, Weave, Woven, adds, after, all_of, branched, counts, join_phis, left, loop_phis, looped, on_both, operator_of, phis_of, preceded, weave_of, weave_step, with_phis, woven_all}
+use Rattle.mit_ssa.specs.Woven.{Defined, Weave, WeavePlace, Woven, WovenStretch, join_phis, just_left, loop_phis, on_both, operator_of, operators_first, phis_of, place_after, stretch_blocks, weave_adds, weave_counts, weave_of, weave_step, with_phis, woven_all, woven_branch, woven_loop}
 use Rattle.mit_ssa.proofs.DefinitionsPhis.{phis_stay}
 use Rattle.mit_ssa.proofs.DefinitionsReady.{Ready, beside_ready, passed_ready, rejoins_known, then_known, turns_known}
 use Rattle.mit_ssa.proofs.DefinitionsWoven.{Flows, all_weave, block_flows, one_flows}
@@ -18,17 +18,17 @@ use Rattle.mit_ssa.proofs.TypesReady.{Agrees, DecidesTyped, Firsts, Grows, assig
 use Rattle.mit_ssa.proofs.TypesOps.{Env, Given, IsPlain, Looks, TypedBlocks, TypedOps, env_both, env_defining, env_more, env_phis, given_split, join_chosen, kinds_length, loop_chosen, no_branch, operator_typed, phis_length, phis_typed, typed_append, typed_left, typed_precede}
 
 -- a part of a script that begins at a place
-pub record Typed (types : List VarType) (place : Place) (woven : Woven) : Type 0 where
+pub record Typed (types : List VarType) (place : WeavePlace) (woven : Woven) : Type 0 where
   pub kinds : List VarType
   pub many : place.operator + length kinds ≡ woven.operator
   pub env : (look : Looks) → Given look place.operator kinds → Env types look place.operator place.defined → Env types look woven.operator woven.defined
-  pub carries : (look : Looks) → Given look place.operator kinds → Env types look place.operator place.defined → (stretch : Stretch) (end : ℕ)
-      → TypedBlocks look woven.operator (all_of stretch) end → TypedBlocks look place.operator (all_of (woven.onto stretch)) end
+  pub carries : (look : Looks) → Given look place.operator kinds → Env types look place.operator place.defined → (stretch : WovenStretch) (end : ℕ)
+      → TypedBlocks look woven.operator (stretch_blocks stretch) end → TypedBlocks look place.operator (stretch_blocks (woven.onto stretch)) end
 
 pub record TypedFlows (types : List VarType) (weave : Weave) (check : Check) : Type 0 where
   pub grows : (known known_after : Known) → check known ≡ Ok known_after → Grows known known_after
   pub firsts : (known known_after : Known) → check known ≡ Ok known_after → Firsts (length types) known → Firsts (length types) known_after
-  pub typed : (place : Place) (known known_after : Known) → check known ≡ Ok known_after → Ready (length types) known place.defined
+  pub typed : (place : WeavePlace) (known known_after : Known) → check known ≡ Ok known_after → Ready (length types) known place.defined
       → Firsts (length types) known → Agrees types known_after → Typed types place (weave.weave place)
 
 -- ---- one after another
@@ -49,8 +49,8 @@ none_typed types = record {
   };
 }
 
-more_woven : (types : List VarType) (weave : Weave) (weaves : List Weave) (place : Place) → Typed types place (weave.weave place)
-    → Typed types (after place weave (weave.weave place)) (woven_all weaves (after place weave (weave.weave place)))
+more_woven : (types : List VarType) (weave : Weave) (weaves : List Weave) (place : WeavePlace) → Typed types place (weave.weave place)
+    → Typed types (place_after place weave (weave.weave place)) (woven_all weaves (place_after place weave (weave.weave place)))
     → Typed types place (woven_all (weave ∷ weaves) place)
 unfolding woven_all
 more_woven types weave weaves place first rest = record {
@@ -58,7 +58,7 @@ more_woven types weave weaves place first rest = record {
   many = (let e = length-append first.kinds rest.kinds in let f = first.many in let g = rest.many in omega (arith, e, f, g));
   env = λ look given env. rest.env look (later look given) (first.env look (early look given) env);
   carries = λ look given env stretch end done.
-      first.carries look (early look given) env ((woven_all weaves (after place weave (weave.weave place))).onto stretch) end
+      first.carries look (early look given) env ((woven_all weaves (place_after place weave (weave.weave place))).onto stretch) end
       (rest.carries look (later look given) (first.env look (early look given) env) stretch end done);
 }
   where
@@ -83,7 +83,7 @@ more_typed types weave weaves check checks flows one rest = record {
       more_woven types weave weaves place
       (one.typed place known parts.middle parts.first ready firsts
       (grows_agree types parts.middle known_after (rest.grows parts.middle known_after parts.second) agrees))
-      (rest.typed (after place weave (weave.weave place)) parts.middle known_after parts.second (flows.passes place known parts.middle parts.first ready)
+      (rest.typed (place_after place weave (weave.weave place)) parts.middle known_after parts.second (flows.passes place known parts.middle parts.first ready)
       (one.firsts known parts.middle parts.first firsts) agrees);
 }
 
@@ -183,22 +183,22 @@ condition_typed types operator args number statement defined known known_after d
 
 -- ---- an `if`
 
-abbrev inside_of : Place → Place
+abbrev inside_of : WeavePlace → WeavePlace
 inside_of place = record { block = place.block + 1; operator = place.operator + 1; statement = place.statement + 1; defined = place.defined }
 
-abbrev beside_of : List Weave → Place → Place
+abbrev beside_of : List Weave → WeavePlace → WeavePlace
 beside_of on_true place = record {
-  block = place.block + 2 + adds on_true;
+  block = place.block + 2 + weave_adds on_true;
   operator = (woven_all on_true (inside_of place)).operator;
-  statement = place.statement + 1 + counts on_true;
+  statement = place.statement + 1 + weave_counts on_true;
   defined = place.defined;
 }
 
-if_woven : (types : List VarType) (operator : OpSpec) (args : List ℕ) (on_true on_false : List Weave) (place : Place)
+if_woven : (types : List VarType) (operator : OpSpec) (args : List ℕ) (on_true on_false : List Weave) (place : WeavePlace)
     → Conditions types operator args place.operator place.statement place.defined
     → Typed types (inside_of place) (woven_all on_true (inside_of place))
     → Typed types (beside_of on_true place) (woven_all on_false (beside_of on_true place))
-    → Typed types place (branched types operator args on_true on_false place)
+    → Typed types place (woven_branch types operator args on_true on_false place)
 unfolding TypedOps TypedBlocks Given
 if_woven types operator args on_true on_false place condition first second = record {
   kinds = scalar Truth ∷ rest;
@@ -218,16 +218,16 @@ if_woven types operator args on_true on_false place condition first second = rec
         no_phi = refl;
         truth = (let e : place.operator + 0 ≡ place.operator = omega arith in ap look e) ∙ given.0;
       }),
-      typed_append look (place.operator + 1) (all_of (one.onto (left (Jump join))) ++ all_of (two.onto (left (Jump join))))
-          (all_of (preceded (phis_of one.defined two.defined phis) stretch)) two.operator end
-          (typed_append look (place.operator + 1) (all_of (one.onto (left (Jump join)))) (all_of (two.onto (left (Jump join)))) one.operator two.operator
-          (first.carries look (of_one look given) (env_in look env) (left (Jump join)) one.operator (typed_left look one.operator join))
-          (second.carries look (of_two look given) (env_two look env) (left (Jump join)) two.operator (typed_left look two.operator join)))
+      typed_append look (place.operator + 1) (stretch_blocks (one.onto (just_left (Jump join))) ++ stretch_blocks (two.onto (just_left (Jump join))))
+          (stretch_blocks (operators_first (phis_of one.defined two.defined phis) stretch)) two.operator end
+          (typed_append look (place.operator + 1) (stretch_blocks (one.onto (just_left (Jump join)))) (stretch_blocks (two.onto (just_left (Jump join)))) one.operator two.operator
+          (first.carries look (of_one look given) (env_in look env) (just_left (Jump join)) one.operator (typed_left look one.operator join))
+          (second.carries look (of_two look given) (env_two look env) (just_left (Jump join)) two.operator (typed_left look two.operator join)))
           (typed_precede look two.operator end (phis_of one.defined two.defined phis) stretch
           (phis_typed types look two.operator one.operator two.operator one.defined two.defined phis grows (first.env look (of_one look given) (env_in look env))
           (second.env look (of_two look given) (env_two look env)) (join_chosen types on_true on_false one.defined two.defined) (of_phis look given))
           (let e = ap (λ (n : ℕ). two.operator + n) (sym (phis_length one.defined two.defined phis)) in
-          subst (λ (n : ℕ). TypedBlocks look n (all_of stretch) end) e later)),
+          subst (λ (n : ℕ). TypedBlocks look n (stretch_blocks stretch) end) e later)),
     ),
   );
 }
@@ -239,7 +239,7 @@ if_woven types operator args on_true on_false place condition first second = rec
     two = woven_all on_false (beside_of on_true place)
 
     join : ℕ
-    join = place.block + 2 + adds on_true + 1 + adds on_false
+    join = place.block + 2 + weave_adds on_true + 1 + weave_adds on_false
 
     phis : List ℕ
     phis = join_phis (length types) on_true on_false one.defined two.defined
@@ -284,7 +284,7 @@ pub record IfParts (operator : OpSpec) (args : List ℕ) (on_true on_false : Lis
 if_parts : (operator : OpSpec) (args : List ℕ) (on_true on_false : List Check) (known known_after : Known)
     → check_step (layer.If operator args on_true on_false) known ≡ Ok known_after → IfParts operator args on_true on_false known known_after
 if_parts operator args on_true on_false known known_after is =
-    let parts = then_known (decided_by operator args) (branched_check on_true on_false) known known_after is in
+    let parts = then_known (decided_by operator args) (branched on_true on_false) known known_after is in
     let rejoins = rejoins_known on_true on_false parts.middle known_after parts.second in
     record {
       inside = parts.middle;
@@ -350,10 +350,10 @@ if_typed types operator args on_true on_false checks_true checks_false first sec
 
 -- ---- a `while`
 
-abbrev phis_at : List VarType → List Weave → Place → List ℕ
+abbrev phis_at : List VarType → List Weave → WeavePlace → List ℕ
 phis_at types body place = loop_phis (length types) body place.defined
 
-abbrev turn_of : List VarType → List Weave → Place → Place
+abbrev turn_of : List VarType → List Weave → WeavePlace → WeavePlace
 turn_of types body place = record {
   block = place.block + 2;
   operator = place.operator + length (phis_at types body place) + 1;
@@ -361,11 +361,11 @@ turn_of types body place = record {
   defined = with_phis place.defined place.operator (phis_at types body place);
 }
 
-while_woven : (types : List VarType) (operator : OpSpec) (args : List ℕ) (body : List Weave) (place : Place)
+while_woven : (types : List VarType) (operator : OpSpec) (args : List ℕ) (body : List Weave) (place : WeavePlace)
     → Conditions types operator args (place.operator + length (phis_at types body place)) place.statement (with_phis place.defined place.operator (phis_at types body place))
     → ((variable : ℕ) → is_some (place.defined variable) ≡ true → is_some ((woven_all body (turn_of types body place)).defined variable) ≡ true)
     → Typed types (turn_of types body place) (woven_all body (turn_of types body place))
-    → Typed types place (looped types operator args body place)
+    → Typed types place (woven_loop types operator args body place)
 unfolding TypedOps TypedBlocks Given
 while_woven types operator args body place condition stays first = record {
   kinds = map (type_in types) phis ++ (scalar Truth ∷ first.kinds);
@@ -377,11 +377,11 @@ while_woven types operator args body place condition stays first = record {
         tt,
         (
           (λ branch. absurd (no_branch branch)),
-          subst (λ (n : ℕ). TypedBlocks look n (all_of (preceded (phis_of place.defined turn.defined phis) (header stretch))) end) e
+          subst (λ (n : ℕ). TypedBlocks look n (stretch_blocks (operators_first (phis_of place.defined turn.defined phis) (header stretch))) end) e
               (typed_precede look place.operator end (phis_of place.defined turn.defined phis) (header stretch)
               (phis_typed types look place.operator place.operator turn.operator place.defined turn.defined phis (omega arith) env
               (first.env look (of_turn look given) (env_turn look given env)) (loop_chosen types body place.defined turn.defined stays) (of_phis look given))
-              (subst (λ (n : ℕ). TypedBlocks look n (all_of (header stretch)) end) f (
+              (subst (λ (n : ℕ). TypedBlocks look n (stretch_blocks (header stretch)) end) f (
                 (inl (condition look (env_inside look given env) (of_condition look given)), tt),
                 (
                   (λ branch. record {
@@ -391,8 +391,8 @@ while_woven types operator args body place condition stays first = record {
                     no_phi = refl;
                     truth = (let g : at + 0 ≡ at = omega arith in ap look g) ∙ of_condition look given;
                   }),
-                  typed_append look (at + 1) (all_of (turn.onto (left (Jump (place.block + 1))))) (all_of stretch) turn.operator end
-                      (first.carries look (of_turn look given) (env_turn look given env) (left (Jump (place.block + 1))) turn.operator
+                  typed_append look (at + 1) (stretch_blocks (turn.onto (just_left (Jump (place.block + 1))))) (stretch_blocks stretch) turn.operator end
+                      (first.carries look (of_turn look given) (env_turn look given env) (just_left (Jump (place.block + 1))) turn.operator
                       (typed_left look turn.operator (place.block + 1))) later,
                 ),
               ))),
@@ -412,10 +412,10 @@ while_woven types operator args body place condition stays first = record {
     turn : Woven
     turn = woven_all body (turn_of types body place)
 
-    header : Stretch → Stretch
+    header : WovenStretch → WovenStretch
     header stretch = record {
-      first = record { operators = operator_of types inside place.statement operator args ∷ []; leave = Branch (place.block + 2) (place.block + 3 + adds body) };
-      later = all_of (turn.onto (left (Jump (place.block + 1)))) ++ all_of stretch;
+      first = record { operators = operator_of types inside place.statement operator args ∷ []; leave = Branch (place.block + 2) (place.block + 3 + weave_adds body) };
+      later = stretch_blocks (turn.onto (just_left (Jump (place.block + 1)))) ++ stretch_blocks stretch;
     }
 
     All : Looks → Type 0
@@ -451,7 +451,7 @@ pub record WhileParts (operator : OpSpec) (args : List ℕ) (body : List Check) 
 while_parts : (operator : OpSpec) (args : List ℕ) (body : List Check) (known known_after : Known)
     → check_step (layer.While operator args body) known ≡ Ok known_after → WhileParts operator args body known known_after
 while_parts operator args body known known_after is =
-    let parts = then_known (decided_by operator args) (looped_check body) known known_after is in
+    let parts = then_known (decided_by operator args) (looped body) known known_after is in
     let turns = turns_known body parts.middle known_after parts.second in
     record {
       inside = parts.middle;
@@ -501,7 +501,7 @@ while_typed types operator args body checks flows first = record {
     inside_firsts : (known known_after : Known) (p : Parts known known_after) → Firsts (length types) known → Firsts (length types) p.inside
     inside_firsts known known_after p firsts = firsts_to (length types) (passed known) p.inside p.decided.is (firsts_passed (length types) known firsts)
 
-    looped_ready : (place : Place) (known : Known) → Ready (length types) known place.defined → Ready (length types) known (turn_of types body place).defined
+    looped_ready : (place : WeavePlace) (known : Known) → Ready (length types) known place.defined → Ready (length types) known (turn_of types body place).defined
     looped_ready place known ready = record {
       many = ready.many;
       each = λ variable is. phis_stay place.defined place.operator (phis_at types body place) variable (ready.each variable is);

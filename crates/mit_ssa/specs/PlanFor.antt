@@ -39,15 +39,15 @@ edges_in operator input (source ∷ sources) =
     record { from = source.from; to = operator; input = input; route = source.route } ∷ edges_in operator (suc input) sources
 
 -- the edges of operators, which are numbered from this number on
-unfoldable pub edges_from : ℕ → List Operator → List Edge
-edges_from number [] = []
-edges_from number (operator ∷ operators) = edges_in number 0 operator.inputs ++ edges_from (suc number) operators
+unfoldable pub operator_edges : ℕ → List Operator → List Edge
+operator_edges number [] = []
+operator_edges number (operator ∷ operators) = edges_in number 0 operator.inputs ++ operator_edges (suc number) operators
 
 abbrev pub operators_of : List Block → List Operator
 operators_of blocks = flat_map (λ block. block.operators) blocks
 
 abbrev pub plan_of_blocks : List Block → PlanOf
-plan_of_blocks blocks = record { blocks = blocks_from 0 blocks; ops = ops_from 0 blocks; edges = edges_from 0 (operators_of blocks) }
+plan_of_blocks blocks = record { blocks = blocks_from 0 blocks; ops = ops_from 0 blocks; edges = operator_edges 0 (operators_of blocks) }
 
 -- the plan of a script whose variables have these types
 abbrev pub plan_for : Script → List VarType → PlanOf

@@ -1,7 +1,7 @@
 -- Devices of the proofs: nobody has to believe them. Which operators may have defined a variable last where an operator takes it.
 use Rattle.std.specs.Prelude.{◌≡◌, ◌<◌, ◌⊎◌, ℕ, zero, suc, ◌+◌, List, [], ◌∷◌, ◌++◌, length, map, All, Contains, Bool, true, false, ◌==◌, if◌then◌else◌, Option, Some, None, IsTrue, slice_index_or}
 use Rattle.mit_ops.specs.declared.kinds.OpSpec.TheVariants.{Copy}
-use Rattle.mit_cfg.specs.Walk.{block_at as code_at}
+use Rattle.mit_cfg.specs.Walk.{numbered_block}
 use Rattle.mit_cfg.specs.declared.block.Block.{Block as Code}
 use Rattle.mit_cfg.specs.declared.block.Step.{Step}
 use Rattle.mit_plan.specs.Paths.{next_of}
@@ -77,7 +77,7 @@ pub record AreListed (ones others : List ℕ) : Type 0 where
 -- defined a variable last at the end of a block is listed for each block that may come next, unless nothing is listed there
 pub record Reaches (plan : PlanOf) (code : List Code) (known : Reaching) : Type 0 where
   pub many : length plan.blocks ≡ length code
-  pub blocks : (block : ℕ) → block < length code → IsBlockOf plan known block (code_at code block)
+  pub blocks : (block : ℕ) → block < length code → IsBlockOf plan known block (numbered_block code block)
   pub start : (variable : ℕ) → known.entry 0 variable ≡ []
   pub defined : (block variable : ℕ) → All (λ operator. known.defines operator ≡ Some variable) (known.entry block variable)
   pub leads : (block next variable : ℕ) → block < length code → Contains (next_of (block_at plan block).leave) next

@@ -21,23 +21,23 @@ use Rattle.mit_ssa.specs.declared.block.Source.{Source}
 -- ---- blocks
 
 -- blocks that are numbered one after another: the one that is current where they begin, and those after it
-pub record Stretch : Type 0 where
+pub record WovenStretch : Type 0 where
   pub first : Block
   pub later : List Block
 
-abbrev pub all_of : Stretch → List Block
-all_of stretch = stretch.first ∷ stretch.later
+abbrev pub stretch_blocks : WovenStretch → List Block
+stretch_blocks stretch = stretch.first ∷ stretch.later
 
 -- operators stand first
-abbrev pub preceded : List Operator → Stretch → Stretch
-preceded operators after = record {
+abbrev pub operators_first : List Operator → WovenStretch → WovenStretch
+operators_first operators after = record {
   first = record { operators = operators ++ after.first.operators; leave = after.first.leave };
   later = after.later;
 }
 
 -- nothing more comes in this block, and it is left so
-abbrev pub left : Leave → Stretch
-left leave = record { first = record { operators = []; leave = leave }; later = [] }
+abbrev pub just_left : Leave → WovenStretch
+just_left leave = record { first = record { operators = []; leave = leave }; later = [] }
 
 -- ---- definitions
 
@@ -78,12 +78,12 @@ abbrev pub operator_of : List VarType → Defined → ℕ → OpSpec → List �
 operator_of types defined statement operator args =
     record { statement = statement; spec = operator; phi = 0; inputs = inputs_from types defined operator 0 args }
 
-abbrev pub operand_of : Defined → ℕ → Source
-operand_of defined variable = record { from = definition_of defined variable; route = Forward }
+abbrev pub defined_operand : Defined → ℕ → Source
+defined_operand defined variable = record { from = definition_of defined variable; route = Forward }
 
 -- a variable's phi takes its definition on the one way or on the other
 abbrev pub phi_of : Defined → Defined → ℕ → Operator
-phi_of one other variable = record { statement = 0; spec = Copy; phi = 2; inputs = operand_of one variable ∷ operand_of other variable ∷ [] }
+phi_of one other variable = record { statement = 0; spec = Copy; phi = 2; inputs = defined_operand one variable ∷ defined_operand other variable ∷ [] }
 
 abbrev pub phis_of : Defined → Defined → List ℕ → List Operator
 phis_of one other variables = map (phi_of one other) variables
@@ -91,7 +91,7 @@ phis_of one other variables = map (phi_of one other) variables
 -- ---- statements
 
 -- where statements begin: the number of the current block, of the next operator and of the next statement, and what is defined
-pub record Place : Type 0 where
+pub record WeavePlace : Type 0 where
   pub block : ℕ
   pub operator : ℕ
   pub statement : ℕ
@@ -101,27 +101,27 @@ pub record Place : Type 0 where
 pub record Woven : Type 0 where
   pub operator : ℕ
   pub defined : Defined
-  pub onto : Stretch → Stretch
+  pub onto : WovenStretch → WovenStretch
 
 -- how a statement is woven: how many statements it is with those inside it, how many blocks it adds, and which variables it assigns
 pub record Weave : Type 0 where
   pub count : ℕ
   pub added : ℕ
   pub assigns : ℕ → Bool
-  pub weave : Place → Woven
+  pub weave : WeavePlace → Woven
 
-abbrev pub counts : List Weave → ℕ
-counts weaves = sum (map (λ weave. weave.count) weaves)
+abbrev pub weave_counts : List Weave → ℕ
+weave_counts weaves = sum (map (λ weave. weave.count) weaves)
 
-abbrev pub adds : List Weave → ℕ
-adds weaves = sum (map (λ weave. weave.added) weaves)
+abbrev pub weave_adds : List Weave → ℕ
+weave_adds weaves = sum (map (λ weave. weave.added) weaves)
 
 abbrev pub assigned_in : List Weave → ℕ → Bool
 assigned_in weaves variable = list_any (λ weave. weave.assigns variable) weaves
 
 -- where the next statement begins
-abbrev pub after : Place → Weave → Woven → Place
-after place weave woven = record {
+abbrev pub place_after : WeavePlace → Weave → Woven → WeavePlace
+place_after place weave woven = record {
   block = place.block + weave.added;
   operator = woven.operator;
   statement = place.statement + weave.count;
@@ -129,11 +129,11 @@ after place weave woven = record {
 }
 
 -- statements one after another
-unfoldable pub woven_all : List Weave → Place → Woven
+unfoldable pub woven_all : List Weave → WeavePlace → Woven
 woven_all [] place = record { operator = place.operator; defined = place.defined; onto = λ stretch. stretch }
 woven_all (first ∷ more) place =
     let one = first.weave place in
-    let rest = woven_all more (after place first one) in
+    let rest = woven_all more (place_after place first one) in
     record { operator = rest.operator; defined = rest.defined; onto = λ stretch. one.onto (rest.onto stretch) }
 
 -- an operator comes to the current block, and defines a variable, or none
@@ -141,11 +141,11 @@ abbrev pub defining_maybe : Defined → Option ℕ → ℕ → Defined
 defining_maybe defined None number = defined
 defining_maybe defined (Some variable) number = defining defined variable number
 
-abbrev pub done : List VarType → Option ℕ → OpSpec → List ℕ → Place → Woven
+abbrev pub done : List VarType → Option ℕ → OpSpec → List ℕ → WeavePlace → Woven
 done types target operator args place = record {
   operator = place.operator + 1;
   defined = defining_maybe place.defined target place.operator;
-  onto = preceded (operator_of types place.defined place.statement operator args ∷ []);
+  onto = operators_first (operator_of types place.defined place.statement operator args ∷ []);
 }
 
 -- after an `if` each variable that a branch assigns and that is defined at the end of both has a phi
@@ -159,14 +159,14 @@ abbrev pub loop_phis : ℕ → List Weave → Defined → List ℕ
 loop_phis variables body defined = filter (λ variable. assigned_in body variable && is_some (defined variable)) (range_with_len 0 variables)
 
 -- an `if`: the condition ends the current block; then come the true block, the false block and the join, in which the phis stand first
-abbrev pub branched : List VarType → OpSpec → List ℕ → List Weave → List Weave → Place → Woven
-branched types operator args on_true on_false place =
-    let other = place.block + 2 + adds on_true in
-    let join = other + 1 + adds on_false in
+abbrev pub woven_branch : List VarType → OpSpec → List ℕ → List Weave → List Weave → WeavePlace → Woven
+woven_branch types operator args on_true on_false place =
+    let other = place.block + 2 + weave_adds on_true in
+    let join = other + 1 + weave_adds on_false in
     let one = woven_all on_true
     (record { block = place.block + 1; operator = place.operator + 1; statement = place.statement + 1; defined = place.defined }) in
     let two = woven_all on_false
-    (record { block = other; operator = one.operator; statement = place.statement + 1 + counts on_true; defined = place.defined }) in
+    (record { block = other; operator = one.operator; statement = place.statement + 1 + weave_counts on_true; defined = place.defined }) in
     let phis = join_phis (length types) on_true on_false one.defined two.defined in
     record {
       operator = two.operator + length phis;
@@ -176,16 +176,16 @@ branched types operator args on_true on_false place =
           operators = operator_of types place.defined place.statement operator args ∷ [];
           leave = Branch (place.block + 1) other;
         };
-        later = all_of (one.onto (left (Jump join))) ++ all_of (two.onto (left (Jump join)))
-            ++ all_of (preceded (phis_of one.defined two.defined phis) stretch);
+        later = stretch_blocks (one.onto (just_left (Jump join))) ++ stretch_blocks (two.onto (just_left (Jump join)))
+            ++ stretch_blocks (operators_first (phis_of one.defined two.defined phis) stretch);
       };
     }
 
 -- a `while`: the current block goes on to the header, which has the phis and the condition; then come the body, which goes back to it, and
 -- the exit
-abbrev pub looped : List VarType → OpSpec → List ℕ → List Weave → Place → Woven
-looped types operator args body place =
-    let exit = place.block + 3 + adds body in
+abbrev pub woven_loop : List VarType → OpSpec → List ℕ → List Weave → WeavePlace → Woven
+woven_loop types operator args body place =
+    let exit = place.block + 3 + weave_adds body in
     let phis = loop_phis (length types) body place.defined in
     let inside = with_phis place.defined place.operator phis in
     let condition = place.operator + length phis in
@@ -199,7 +199,7 @@ looped types operator args body place =
         later = record {
           operators = phis_of place.defined turn.defined phis ++ operator_of types inside place.statement operator args ∷ [];
           leave = Branch (place.block + 2) exit;
-        } ∷ all_of (turn.onto (left (Jump (place.block + 1)))) ++ all_of stretch;
+        } ∷ stretch_blocks (turn.onto (just_left (Jump (place.block + 1)))) ++ stretch_blocks stretch;
       };
     }
 
@@ -210,25 +210,25 @@ weave_step types (stmt.Assign target operator args) =
 weave_step types (stmt.Write operator args) =
     record { count = 1; added = 0; assigns = λ variable. false; weave = done types None operator args }
 weave_step types (stmt.If operator args on_true on_false) = record {
-  count = 1 + counts on_true + counts on_false;
-  added = 3 + adds on_true + adds on_false;
+  count = 1 + weave_counts on_true + weave_counts on_false;
+  added = 3 + weave_adds on_true + weave_adds on_false;
   assigns = λ variable. assigned_in on_true variable || assigned_in on_false variable;
-  weave = branched types operator args on_true on_false;
+  weave = woven_branch types operator args on_true on_false;
 }
 weave_step types (stmt.While operator args body) = record {
-  count = 1 + counts body;
-  added = 3 + adds body;
+  count = 1 + weave_counts body;
+  added = 3 + weave_adds body;
   assigns = assigned_in body;
-  weave = looped types operator args body;
+  weave = woven_loop types operator args body;
 }
 
 abbrev pub weave_of : List VarType → Stmt → Weave
 weave_of types = fold-Stmt Weave (weave_step types)
 
 -- at the start nothing is defined
-abbrev pub at_start : Place
-at_start = record { block = 0; operator = 0; statement = 1; defined = λ variable. None }
+abbrev pub start_place : WeavePlace
+start_place = record { block = 0; operator = 0; statement = 1; defined = λ variable. None }
 
 -- the blocks of a script, whose variables have these types
 abbrev pub woven_blocks : Script → List VarType → List Block
-woven_blocks script types = all_of ((woven_all (map (weave_of types) script.body) at_start).onto (left End))
+woven_blocks script types = stretch_blocks ((woven_all (map (weave_of types) script.body) start_place).onto (just_left End))

@@ -3,7 +3,7 @@ ghost use Rattle.std.specs.Prelude.{◌≡◌, ◌<◌, ◌≤◌, ◌+◌, [], 
 ghost use Rattle.mit_ops.specs.declared.leave.Leave.TheVariants.{Branch, Jump};
 ghost use Rattle.mit_plan.specs.declared.plan.TheConstants.{MAX_OPS};
 ghost use Rattle.mit_ssa.specs.Weaving as spec;
-ghost use Rattle.mit_ssa.specs.Weaving.{IsAt, IsSmall, Joined, Stops, Turned, Weaves, both_kept, in_loop, join_kept, kept_phis, looked, place_of, put_in, variables_of, with_table};
+ghost use Rattle.mit_ssa.specs.Weaving.{IsAt, IsSmall, Joined, StopsWeaving, Turned, Weaves, both_kept, builder_place, defined_variables, in_loop, join_kept, kept_phis, looked, put_in, with_table};
 ghost use Rattle.mit_ssa.specs.Woven.{done};
 
 use crate::block::{Block, Listing, Operator};
@@ -58,8 +58,8 @@ fn branches(before: Builder, first: Builder, second: Builder) -> Result<Vec<Bloc
     requires small { IsSmall before }
     requires first { IsSmall first }
     requires second { IsSmall second }
-    ensures { IfOk result (λ all. all.items ≡ spec.closed (Branch (before.block + 1) (first.block + 1)) before
-        ++ (spec.closed (Jump (second.block + 1)) first ++ spec.closed (Jump (second.block + 1)) second)) }
+    ensures { IfOk result (λ all. all.items ≡ spec.closed_blocks (Branch (before.block + 1) (first.block + 1)) before
+        ++ (spec.closed_blocks (Jump (second.block + 1)) first ++ spec.closed_blocks (Jump (second.block + 1)) second)) }
 {
     let join = second.block + 1;
     let leave = Leave::Branch {
@@ -120,7 +120,7 @@ impl Builder {
 
     /// Its blocks, where the current one is left so.
     pub(crate) fn closed(self, leave: Leave) -> Result<Vec<Block>, AllocError>
-        ensures { IfOk result (λ all. all.items ≡ spec.closed leave self) }
+        ensures { IfOk result (λ all. all.items ≡ spec.closed_blocks leave self) }
     {
         let Builder {
             mut blocks,
@@ -144,8 +144,8 @@ impl Builder {
         args: &[u32],
     ) -> Result<Builder, PlanStop>
         requires small { IsSmall self }
-        ensures woven { IfOk result (Weaves 1 0 (done types.now target op.now args.now (place_of self)) self) }
-        ensures large { IfErr result (Stops (self.operator + 1)) }
+        ensures woven { IfOk result (Weaves 1 0 (done types.now target op.now args.now (builder_place self)) self) }
+        ensures large { IfErr result (StopsWeaving (self.operator + 1)) }
     {
         let next = after_more(self.operator, 1)?;
         let Builder {
@@ -179,10 +179,10 @@ impl Builder {
         requires small { IsSmall self }
         requires first { IsSmall first }
         requires second { IsSmall second }
-        ensures joined { IfOk result (Joined (variables_of (join_kept variables ones.now (looked second.defined.items)))
+        ensures joined { IfOk result (Joined (defined_variables (join_kept variables ones.now (looked second.defined.items)))
             (put_in (looked second.defined.items) (both_kept ones.now (looked second.defined.items)))
             (kept_phis (join_kept variables ones.now (looked second.defined.items)) (looked second.defined.items)) self first second) }
-        ensures large { IfErr result (Stops (second.operator + length (join_kept variables ones.now (looked second.defined.items)))) }
+        ensures large { IfErr result (StopsWeaving (second.operator + length (join_kept variables ones.now (looked second.defined.items)))) }
     {
         let phis = join_phis(alloc, variables, ones, &second.defined)?;
         let operator = after_more(second.operator, phis.len())?;
@@ -210,9 +210,9 @@ impl Builder {
         phis: &[Definition],
     ) -> Result<Builder, PlanStop>
         requires small { IsSmall self.now }
-        ensures inside { IfOk result (IsAt (in_loop (variables_of phis.now) (record { block = self.now.block; operator = self.now.operator; statement = self.now.statement; defined = looked defined.items }))) }
+        ensures inside { IfOk result (IsAt (in_loop (defined_variables phis.now) (record { block = self.now.block; operator = self.now.operator; statement = self.now.statement; defined = looked defined.items }))) }
         ensures few { IfOk result (λ inside. inside.operator ≤ MAX_OPS) }
-        ensures large { IfErr result (Stops (self.now.operator + length phis.now + 1)) }
+        ensures large { IfErr result (StopsWeaving (self.now.operator + length phis.now + 1)) }
     {
         let condition = after_more(self.operator, phis.len())?;
         let next = after_more(condition, 1)?;
@@ -234,7 +234,7 @@ impl Builder {
         requires small { IsSmall self }
         requires body { IsSmall body }
         requires phis { self.operator + length phis.now ≤ MAX_OPS }
-        ensures { IfOk result (Turned types.now op.now args.now (variables_of phis.now) (put_in (looked body.defined.items) olds.now)
+        ensures { IfOk result (Turned types.now op.now args.now (defined_variables phis.now) (put_in (looked body.defined.items) olds.now)
             (kept_phis phis.now (looked body.defined.items)) self body) }
     {
         let mut operators = phis_of(alloc, phis, &body.defined)?;
@@ -261,9 +261,9 @@ fn loop_blocks(
 ) -> Result<Vec<Block>, AllocError>
     requires small { IsSmall before }
     requires body { IsSmall body }
-    ensures { IfOk result (λ all. all.items ≡ spec.closed (Jump (before.block + 1)) before
+    ensures { IfOk result (λ all. all.items ≡ spec.closed_blocks (Jump (before.block + 1)) before
         ++ (record { operators = operators.items; leave = Branch (before.block + 2) (body.block + 1) }
-        ∷ spec.closed (Jump (before.block + 1)) body)) }
+        ∷ spec.closed_blocks (Jump (before.block + 1)) body)) }
 {
     let header = before.block + 1;
     let leave = Leave::Branch {

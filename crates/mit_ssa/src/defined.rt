@@ -1,6 +1,6 @@
 //! The operator that defines each variable, where it is assigned on every path to here.
 ghost use Rattle.std.specs.Prelude.{◌≡◌, ◌<◌, ◌+◌, ◌&&◌, ◌^◌, None, length, is_some, if◌then◌else◌, IfOk, OnOk};
-ghost use Rattle.mit_ssa.specs.Weaving.{both_kept, kept_of, looked, put_in, putting, variables_of};
+ghost use Rattle.mit_ssa.specs.Weaving.{both_kept, defined_variables, kept_of, looked, put_in, putting};
 ghost use Rattle.mit_ssa.specs.Woven as spec;
 ghost use Rattle.mit_ssa.specs.Woven.{defining_maybe, with_phis};
 
@@ -100,7 +100,7 @@ pub(crate) fn define_all(
     phis: &[Definition],
 ) -> Result<Vec<Option<u32>>, AllocError>
     requires few { number + length phis.now < 2 ^ 32 }
-    ensures { IfOk result (λ after. looked after.items ≡ with_phis (looked defined.items) number (variables_of phis.now)) }
+    ensures { IfOk result (λ after. looked after.items ≡ with_phis (looked defined.items) number (defined_variables phis.now)) }
 {
     let mut after = defined;
     let mut next = number;

@@ -2,7 +2,7 @@
 ghost use Rattle.std.specs.Prelude.{◌≡◌, ◌<◌, ◌≤◌, ◌+◌, ◌++◌, ◌^◌, ◌⊎◌, length, IfErr, IfOk, OnOk};
 ghost use Rattle.mit_plan.specs.declared.plan.TheConstants.{MAX_EDGES, MAX_OPS};
 ghost use Rattle.mit_ssa.specs.Numbering.{AddsBlock, AddsOperator, AddsOperators};
-ghost use Rattle.mit_ssa.specs.PlanFor.{IsLarge, TellsLarge, edges_from, edges_in, plan_of_blocks};
+ghost use Rattle.mit_ssa.specs.PlanFor.{IsLarge, TellsLarge, edges_in, operator_edges, plan_of_blocks};
 ghost use Rattle.mit_ssa.specs.Weaving.{IfLarge};
 
 use crate::block::{Block, Operator, Source};
@@ -76,7 +76,7 @@ fn add_operators(lists: Lists, block: u32, operators: Vec<Operator>) -> Result<L
     requires edges { length lists.edges.items ≤ MAX_EDGES }
     ensures added { IfOk result (AddsOperators block operators.items lists) }
     ensures large { IfErr result (IfLarge (MAX_EDGES < length lists.edges.items
-        + length (edges_from (length lists.ops.items) operators.items))) }
+        + length (operator_edges (length lists.ops.items) operators.items))) }
 {
     let mut all = lists;
     let mut index = 0;
@@ -94,7 +94,7 @@ fn add_block(lists: Lists, block: Block) -> Result<Lists, PlanStop>
     requires edges { length lists.edges.items ≤ MAX_EDGES }
     ensures added { IfOk result (AddsBlock block lists) }
     ensures large { IfErr result (IfLarge ((MAX_OPS < length lists.ops.items + length block.operators)
-        ⊎ (MAX_EDGES < length lists.edges.items + length (edges_from (length lists.ops.items) block.operators)))) }
+        ⊎ (MAX_EDGES < length lists.edges.items + length (operator_edges (length lists.ops.items) block.operators)))) }
 {
     let number = lists.blocks.len() as u32;
     let first = lists.ops.len() as u32;

@@ -1,7 +1,7 @@
 //! The blocks of a script, with their operators.
 ghost use Rattle.std.specs.Prelude.{◌≡◌, ◌≤◌, ◌+◌, ◌*◌, IfErr, IfOk, map};
-ghost use Rattle.mit_ssa.specs.Weaving.{IsSmall, Stops, Weaves, place_of, split};
-ghost use Rattle.mit_ssa.specs.Woven.{adds, counts, looped, weave_of, woven_all};
+ghost use Rattle.mit_ssa.specs.Weaving.{IsSmall, StopsWeaving, Weaves, builder_place, split};
+ghost use Rattle.mit_ssa.specs.Woven.{weave_adds, weave_counts, weave_of, woven_all, woven_loop};
 
 use crate::build::Builder;
 use crate::changed::{in_order, mark_all};
@@ -21,9 +21,9 @@ pub(crate) fn weave_all(
     block: &[Stmt],
 ) -> Result<Builder, PlanStop>
     requires small { IsSmall before }
-    ensures woven { IfOk result (Weaves (counts (map (weave_of types.now) block.now)) (adds (map (weave_of types.now) block.now))
-        (woven_all (map (weave_of types.now) block.now) (place_of before)) before) }
-    ensures large { IfErr result (Stops (woven_all (map (weave_of types.now) block.now) (place_of before)).operator) }
+    ensures woven { IfOk result (Weaves (weave_counts (map (weave_of types.now) block.now)) (weave_adds (map (weave_of types.now) block.now))
+        (woven_all (map (weave_of types.now) block.now) (builder_place before)) before) }
+    ensures large { IfErr result (StopsWeaving (woven_all (map (weave_of types.now) block.now) (builder_place before)).operator) }
 {
     let mut built = before;
     for stmt in block {
@@ -43,11 +43,11 @@ fn weave_if(
 ) -> Result<Builder, PlanStop>
     requires small { IsSmall before }
     requires room { before.block + 3 ≤ 3 * before.operator }
-    ensures woven { IfOk result (Weaves (counts (map (weave_of types.now) yes.now) + counts (map (weave_of types.now) no.now))
-        (3 + adds (map (weave_of types.now) yes.now) + adds (map (weave_of types.now) no.now))
-        (split types.now (map (weave_of types.now) yes.now) (map (weave_of types.now) no.now) (place_of before)) before) }
-    ensures large { IfErr result (Stops
-        (split types.now (map (weave_of types.now) yes.now) (map (weave_of types.now) no.now) (place_of before)).operator) }
+    ensures woven { IfOk result (Weaves (weave_counts (map (weave_of types.now) yes.now) + weave_counts (map (weave_of types.now) no.now))
+        (3 + weave_adds (map (weave_of types.now) yes.now) + weave_adds (map (weave_of types.now) no.now))
+        (split types.now (map (weave_of types.now) yes.now) (map (weave_of types.now) no.now) (builder_place before)) before) }
+    ensures large { IfErr result (StopsWeaving
+        (split types.now (map (weave_of types.now) yes.now) (map (weave_of types.now) no.now) (builder_place before)).operator) }
 {
     let assigned = in_order(mark_all(mark_all(Vec::new(alloc), yes)?, no)?);
     let olds = keep(alloc, &before.defined, &assigned)?;
@@ -84,9 +84,9 @@ fn weave_while(
     body: &[Stmt],
 ) -> Result<Builder, PlanStop>
     requires small { IsSmall before }
-    ensures woven { IfOk result (Weaves (1 + counts (map (weave_of types.now) body.now)) (3 + adds (map (weave_of types.now) body.now))
-        (looped types.now op.now args.now (map (weave_of types.now) body.now) (place_of before)) before) }
-    ensures large { IfErr result (Stops (looped types.now op.now args.now (map (weave_of types.now) body.now) (place_of before)).operator) }
+    ensures woven { IfOk result (Weaves (1 + weave_counts (map (weave_of types.now) body.now)) (3 + weave_adds (map (weave_of types.now) body.now))
+        (woven_loop types.now op.now args.now (map (weave_of types.now) body.now) (builder_place before)) before) }
+    ensures large { IfErr result (StopsWeaving (woven_loop types.now op.now args.now (map (weave_of types.now) body.now) (builder_place before)).operator) }
 {
     let assigned = in_order(mark_all(Vec::new(alloc), body)?);
     let olds = keep(alloc, &before.defined, &assigned)?;
@@ -107,8 +107,8 @@ fn weave_one(
 ) -> Result<Builder, PlanStop>
     requires small { IsSmall before }
     ensures woven { IfOk result (Weaves (weave_of types.now stmt.now).count (weave_of types.now stmt.now).added
-        ((weave_of types.now stmt.now).weave (place_of before)) before) }
-    ensures large { IfErr result (Stops ((weave_of types.now stmt.now).weave (place_of before)).operator) }
+        ((weave_of types.now stmt.now).weave (builder_place before)) before) }
+    ensures large { IfErr result (StopsWeaving ((weave_of types.now stmt.now).weave (builder_place before)).operator) }
 {
     match stmt {
         Stmt::Assign { target, op, args } => {

@@ -1,7 +1,7 @@
 //! Where jumps lead from blocks without operators, so that a search goes on from the others alone.
 ghost use Rattle.std.specs.Prelude.{◌≡◌, ◌<◌, ◌+◌, ◌^◌, length, IfOk};
 ghost use Rattle.mit_plan.specs.Deciding.{ListsStand};
-ghost use Rattle.mit_plan.specs.Searched.{Skips, Stays, Walks, step_of};
+ghost use Rattle.mit_plan.specs.Searched.{Skips, Stays, Walks, jump_step};
 ghost use Rattle.mit_plan.specs.Valid.{LeavesNameBlocks};
 
 use crate::plan::Plan;
@@ -22,7 +22,7 @@ pub(crate) fn own_landings(alloc: Global, plan: &Plan) -> Result<Vec<u32>, Alloc
 /// The block to which a block without operators jumps; otherwise the block itself.
 fn step(plan: &Plan, block: u32) -> u32
     requires { block < length plan.now.blocks }
-    ensures { result ≡ step_of plan.now block }
+    ensures { result ≡ jump_step plan.now block }
 {
     let own = plan.blocks()[block as usize];
     match own.leave {

@@ -1,11 +1,11 @@
 use Rattle.std.proofs.Common.{◌∙◌, ◌+◌, Some, None, ap, arith, map, refl, rules, subst, sym, tests}
 use Rattle.std.specs.Prelude.{IfOk}
 use Rattle.std.proofs.lemmas.Result.{IfOk-weaker}
-use Rattle.mit_cfg.specs.Laying.{Adds, Joins, Lays}
+use Rattle.mit_cfg.specs.Laying.{AddsStep, Joins, Lays}
 use Rattle.std.proofs.lemmas.Grind.{common_steps}
 use Rattle.mit_script.specs.declared.tree.Stmt.{the_lemmas}
 use Rattle.mit_ops.specs.declared.leave.Leave.TheVariants.{End}
-use Rattle.mit_cfg.specs.Blocks.{Cut, adds, counts, cut_of, in_turn}
+use Rattle.mit_cfg.specs.Blocks.{Cut, cut_adds, cut_counts, cut_in_turn, cut_of}
 use Rattle.mit_cfg.proofs.Counted.{cut_of-Assign, cut_of-If, cut_of-Write, half_more, half_whole, next_counts}
 use Rattle.mit_cfg.proofs.Laid.{body_few, closed_size, first_few, if_laid, second_few, step_laid, while_laid}
 use Rattle.mit_cfg.proofs.cut.+add_all.Goals as goal
@@ -55,13 +55,13 @@ add_while-returns t c =
 pub add_one-returns-in-Assign : goal.add_one-returns-in-Assign
 add_one-returns-in-Assign t c =
     subst (λ cut. IfOk c.add.result (Lays cut.count cut.added cut.onto c.args.before)) (sym (ap cut_of c.in-Assign.is ∙ cut_of-Assign c.in-Assign.target c.in-Assign.op c.in-Assign.args))
-    (IfOk-weaker c.add.result (Adds (Some c.in-Assign.target) c.in-Assign.op c.in-Assign.args c.args.before) _
+    (IfOk-weaker c.add.result (AddsStep (Some c.in-Assign.target) c.in-Assign.op c.in-Assign.args c.args.before) _
     (λ new added. step_laid (Some c.in-Assign.target) c.in-Assign.op c.in-Assign.args c.args.before new added) c.add.ensures)
 
 pub add_one-returns-in-Write : goal.add_one-returns-in-Write
 add_one-returns-in-Write t c =
     subst (λ cut. IfOk c.add-in-Write.result (Lays cut.count cut.added cut.onto c.args.before)) (sym (ap cut_of c.in-Write.is ∙ cut_of-Write c.in-Write.op c.in-Write.args))
-    (IfOk-weaker c.add-in-Write.result (Adds None c.in-Write.op c.in-Write.args c.args.before) _
+    (IfOk-weaker c.add-in-Write.result (AddsStep None c.in-Write.op c.in-Write.args c.args.before) _
     (λ new added. step_laid None c.in-Write.op c.in-Write.args c.args.before new added) c.add-in-Write.ensures)
 
 pub add_one-current-last-requires : goal.add_one-current-last-requires
@@ -72,7 +72,7 @@ add_one-current-last-requires t c =
     c.in_ok-first-in-If.ensures c.requires.blocks in
     let few = c.requires.few in
     let size = ap (λ (cut : Cut). cut.count) (ap cut_of c.in-If.is ∙ cut_of-If c.in-If.op c.in-If.args c.in-If.yes c.in-If.no) in
-    let one = ap (λ block. counts (map cut_of block)) c.as_slice.ensures in
+    let one = ap (λ block. cut_counts (map cut_of block)) c.as_slice.ensures in
     let a = first.0 in let b = first.1 in
     omega (arith, few, size, one, a, b)
 
@@ -84,9 +84,9 @@ add_one-add_all-requires-in-If t c =
     c.in_ok-first-in-If.ensures c.requires.blocks in
     let few = c.requires.few in
     let size = ap (λ (cut : Cut). cut.count) (ap cut_of c.in-If.is ∙ cut_of-If c.in-If.op c.in-If.args c.in-If.yes c.in-If.no) in
-    let one = ap (λ block. counts (map cut_of block)) c.as_slice.ensures in
+    let one = ap (λ block. cut_counts (map cut_of block)) c.as_slice.ensures in
     let a = first.0 in let b = first.1 in
-    let other = ap (λ block. counts (map cut_of block)) c.as_slice-in-If.ensures in
+    let other = ap (λ block. cut_counts (map cut_of block)) c.as_slice-in-If.ensures in
     let d = c.in_ok-between-in-If.ensures.number in
     let e = closed_size End c.in_ok-first-in-If.first c.in_ok-between-in-If.between (record { blocks = c.in_ok-between-in-If.ensures.blocks; steps = c.in_ok-between-in-If.ensures.steps; number = c.in_ok-between-in-If.ensures.number }) in
     (search (rules, the_lemmas, tests, common_steps), (omega (arith, few, size, one, other, b, d), omega (arith, a, d, e)))
@@ -99,9 +99,9 @@ add_one-add_join-requires-clause-few t c =
     c.in_ok-first-in-If.ensures c.requires.blocks in
     let few = c.requires.few in
     let size = ap (λ (cut : Cut). cut.count) (ap cut_of c.in-If.is ∙ cut_of-If c.in-If.op c.in-If.args c.in-If.yes c.in-If.no) in
-    let one = ap (λ block. counts (map cut_of block)) c.as_slice.ensures in
+    let one = ap (λ block. cut_counts (map cut_of block)) c.as_slice.ensures in
     let a = first.0 in let b = first.1 in
-    let other = ap (λ block. counts (map cut_of block)) c.as_slice-in-If.ensures in
+    let other = ap (λ block. cut_counts (map cut_of block)) c.as_slice-in-If.ensures in
     let second = second_few c.as_slice-in-If.result.now c.in_ok-first-in-If.first c.in_ok-between-in-If.between c.in_ok-second-in-If.second
     (record { blocks = c.in_ok-between-in-If.ensures.blocks; steps = c.in_ok-between-in-If.ensures.steps; number = c.in_ok-between-in-If.ensures.number }) c.in_ok-second-in-If.ensures a in
     let d = second.1 in let e = second.2 in
@@ -115,7 +115,7 @@ add_one-returns-in_ok-second-in-If t c =
     c.args.before c.in_ok-condition-in-If.condition c.in_ok-inside-in-If.inside c.in_ok-first-in-If.first c.in_ok-between-in-If.between c.in_ok-second-in-If.second new
     c.current-here.ensures c.current-last.ensures c.in_ok-condition-in-If.ensures
     (record { blocks = c.in_ok-inside-in-If.ensures.blocks; steps = c.in_ok-inside-in-If.ensures.steps; number = c.in_ok-inside-in-If.ensures.number })
-    (subst (λ block. Lays (counts (map cut_of block)) (adds (map cut_of block)) (in_turn (map cut_of block)) c.in_ok-inside-in-If.inside c.in_ok-first-in-If.first) c.as_slice.ensures c.in_ok-first-in-If.ensures)
+    (subst (λ block. Lays (cut_counts (map cut_of block)) (cut_adds (map cut_of block)) (cut_in_turn (map cut_of block)) c.in_ok-inside-in-If.inside c.in_ok-first-in-If.first) c.as_slice.ensures c.in_ok-first-in-If.ensures)
     (record { blocks = c.in_ok-between-in-If.ensures.blocks; steps = c.in_ok-between-in-If.ensures.steps; number = c.in_ok-between-in-If.ensures.number })
-    (subst (λ block. Lays (counts (map cut_of block)) (adds (map cut_of block)) (in_turn (map cut_of block)) c.in_ok-between-in-If.between c.in_ok-second-in-If.second) c.as_slice-in-If.ensures c.in_ok-second-in-If.ensures)
+    (subst (λ block. Lays (cut_counts (map cut_of block)) (cut_adds (map cut_of block)) (cut_in_turn (map cut_of block)) c.in_ok-between-in-If.between c.in_ok-second-in-If.second) c.as_slice-in-If.ensures c.in_ok-second-in-If.ensures)
     joins) c.add_join.ensures)

@@ -8,7 +8,7 @@ use Rattle.mit_script.specs.Trees.{count_of_all}
 use Rattle.mit_script.specs.declared.tree.Stmt.{the_lemmas}
 use Rattle.mit_check.specs.Bags.{HaveBags}
 use Rattle.mit_check.specs.Tells.{TellsFault}
-use Rattle.mit_check.specs.Trails.{Extends, known_in}
+use Rattle.mit_check.specs.Trails.{ExtendsTrail, known_in}
 use Rattle.mit_check.proofs.Bagged.{assign_bags, if_bags, while_bags, write_bags}
 use Rattle.mit_check.proofs.Statements.{check_of-If, count_of-If, count_of-While}
 use Rattle.mit_check.proofs.Trails.{branched_on, extends_by_none, extends_joined, extends_twice, joined, restored}
@@ -33,7 +33,7 @@ check_body-returns-clause-extends t c =
 
 pub check_one-returns-in_ok-inside-in-While-clause-extends : goal.check_one-returns-in_ok-inside-in-While-clause-extends
 check_one-returns-in_ok-inside-in-While-clause-extends t c =
-    IfOk-weaker c.check_body.result (Extends c.in_ok-inside-in-While.inside) (Extends c.args.tables)
+    IfOk-weaker c.check_body.result (ExtendsTrail c.in_ok-inside-in-While.inside) (ExtendsTrail c.args.tables)
     (λ after more. extends_twice c.args.tables c.in_ok-inside-in-While.inside after c.in_ok-inside-in-While.ensures.extends more) c.check_body.ensures.extends
 
 pub check_other-returns-clause-passed : goal.check_other-returns-clause-passed
@@ -73,7 +73,7 @@ pub check_one-returns-in_ok-before-in-If-clause-extends : goal.check_one-returns
 check_one-returns-in_ok-before-in-If-clause-extends t c =
     let back = restored c.in_ok-before-in-If.before (c.len-size.ensures ∙ c.in_ok-inside-in-If.inside.trail.ok.0) c.in_ok-one-in-If.ensures.extends c.in_ok-before-in-If.ensures.known c.in_ok-before-in-If.ensures.trail c.in_ok-before-in-If.ensures.taken in
     let inside = extends_twice c.args.tables c.in_ok-inside-in-If.inside c.in_ok-before-in-If.before c.in_ok-inside-in-If.ensures.extends (extends_by_none c.in_ok-inside-in-If.inside c.in_ok-before-in-If.before back.trail back.assigned) in
-    IfOk-weaker c.check_other.result (Extends c.in_ok-before-in-If.before) (Extends c.args.tables)
+    IfOk-weaker c.check_other.result (ExtendsTrail c.in_ok-before-in-If.before) (ExtendsTrail c.args.tables)
     (λ after more. extends_twice c.args.tables c.in_ok-before-in-If.before after inside more) (c.check_other.ensures.extends (rw (c.deref.ensures.value, back.assigned) back.fresh))
 
 pub check_one-assign-requires-clause-complete : goal.check_one-assign-requires-clause-complete

@@ -1,6 +1,6 @@
 use Rattle.std.proofs.Common.{◌≡◌, ◌+◌, ◌++◌, [], ◌∷◌, arith, refl}
 use Rattle.std.specs.Prelude.{if◌then◌else◌}
-use Rattle.mit_engine.specs.Operators.{can_poll}
+use Rattle.mit_engine.specs.Operators.{is_pollable}
 use Rattle.mit_engine.specs.Running.{polls_from}
 use Rattle.mit_engine.specs.declared.job.Action.TheVariants as action
 use Rattle.mit_engine.proofs.OperatorLemmas.{made_all, made_more, poll_not_offered, poll_offered}
@@ -12,7 +12,7 @@ unfolding polls_from
 loop-at-preserved c =
     let at = c.loop-at.at in
     let operator = c.index-operators-at.result in
-    let can = can_poll operator in
+    let can = is_pollable operator in
     let before = c.loop-at.offer.items in
     let after = c.if-can_poll.offer.items in
     let grown : after ≡ before ++ (if can then action.Poll at ∷ [] else []) =

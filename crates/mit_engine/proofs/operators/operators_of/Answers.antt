@@ -1,5 +1,5 @@
 use Rattle.std.proofs.Common.{◌∙◌, ◌+◌, ◌++◌, ◌∷◌, [], ℕ, List, ap, arith, length, map, refl, subst, sym}
-use Rattle.mit_engine.specs.Operators.{Fits, assigned_after, first_operator, sources_from, sources_of}
+use Rattle.mit_engine.specs.Operators.{FitsVariables, assigned_after, first_operator, sources_from, sources_of}
 use Rattle.mit_engine.specs.declared.operators.Operator.{Operator}
 use Rattle.mit_engine.specs.declared.thin.ThinStep.{ThinStep}
 use Rattle.mit_engine.proofs.FormedLemmas.{formed_first}
@@ -14,12 +14,12 @@ loop-at-init c = record {
 
 pub operator_of-requires : goal.operator_of-requires
 operator_of-requires c =
-    subst (λ (assigned : List ℕ). Fits (length assigned) c.index-steps-at.result) (sym c.deref.ensures.value)
+    subst (λ (assigned : List ℕ). FitsVariables (length assigned) c.index-steps-at.result) (sym c.deref.ensures.value)
     (formed_at_hand c.loop-at.assigned.items c.args.steps.now c.loop-at.at c.index-steps-at.result (omega arith) c.index-steps-at.is c.loop-at.invariant.formed).fits
 
 pub note-requires : goal.note-requires
 note-requires c =
-    subst (λ (n : ℕ). Fits n c.index-steps-at.result) (sym c.loop-at.assigned.ok.0)
+    subst (λ (n : ℕ). FitsVariables n c.index-steps-at.result) (sym c.loop-at.assigned.ok.0)
     (formed_at_hand c.loop-at.assigned.items c.args.steps.now c.loop-at.at c.index-steps-at.result (omega arith) c.index-steps-at.is c.loop-at.invariant.formed).fits
 
 pub loop-at-preserved : goal.loop-at-preserved

@@ -12,7 +12,7 @@ use Rattle.mit_shelf.specs.declared.stop.Stop.{Stop}
 use Rattle.mit_shelf.specs.declared.stop.Stop.TheVariants as stop
 use Rattle.mit_ops.specs.declared.faults.FaultKind.{FaultKind}
 use Rattle.mit_ops.specs.declared.faults.FaultKind.TheVariants as fault
-use Rattle.mit_engine.specs.Operators.{GivesBag}
+use Rattle.mit_engine.specs.Operators.{PollGivesBag}
 use Rattle.mit_engine.specs.Reads.{bag_of_file, bag_of_rows, integers, read_bag}
 use Rattle.mit_engine.proofs.polls.read.Goals as goal
 
@@ -23,14 +23,14 @@ kept_there shelf name file is files agrees =
 
 -- what is made of the bytes at the place that a fetch gave is what a read gives
 read_found : (old new : Kept) (asked name : List ℕ) (told : Option FileMap) (place : ℕ) (bytes : List ℕ) (types : List ColType) (result : Result BagOf (Stop FaultKind))
-    → asked ≡ name → FetchesAs old new asked told (Ok place) → bytes_at new place ≡ Some bytes → GivesBag (bag_of_rows (rows_of bytes types)) result
-    → (files : FileMap) → Agrees new files → GivesBag (read_bag files name types) result
+    → asked ≡ name → FetchesAs old new asked told (Ok place) → bytes_at new place ≡ Some bytes → PollGivesBag (bag_of_rows (rows_of bytes types)) result
+    → (files : FileMap) → Agrees new files → PollGivesBag (read_bag files name types) result
 read_found old new asked name told place bytes types result same fetched at gives files agrees =
     let there : bytes_at new place ≡ Some fetched.0 = ap (option_and_then (λ (entry : List ℕ × Option (List ℕ)). entry.1)) fetched.1 in
     let is : fetched.0 ≡ bytes = cc in
     let found : fin.get files name ≡ Some bytes =
     ap (fin.get files) (sym same) ∙ kept_there new asked (Some fetched.0) fetched.2.0 files agrees ∙ ap Some is in
-    let P : Option (List ℕ) → Type 0 = λ file. GivesBag (bag_of_file types file) result in
+    let P : Option (List ℕ) → Type 0 = λ file. PollGivesBag (bag_of_file types file) result in
     subst P (sym found) gives
 
 -- a name that is kept as absent has no file

@@ -2,7 +2,7 @@ use Rattle.std.proofs.Common.{◌≡◌, ◌∙◌, ◌-◌, Ok, sym, subst}
 use Rattle.std.proofs.lemmas.Result.{err_from_is_err_and}
 use Rattle.mit_script.specs.Grammar.{number_in}
 use Rattle.mit_script.specs.Reading.{after_next, chain_from, expression, ranked}
-use Rattle.mit_parse.specs.Gives.{Stops}
+use Rattle.mit_parse.specs.Gives.{StopsReading}
 use Rattle.mit_parse.proofs.Loops.{chain_ends, chain_goes_on, chain_runs_out, chain_stops}
 use Rattle.mit_parse.proofs.expr.+expression.Goals as goal
 
@@ -17,7 +17,7 @@ chain_from-returns-in_err-right t c =
     let number = number_in c.args.captured.now in
     let operand = ranked (expression number c.args.depth) number c.args.depth c.args.below in
     let p = err_from_is_err_and c.from_residual.result c.from_residual.ensures.1 in
-    let stopped = subst (λ tokens. Stops c.in_err-right.field-0.0 (operand tokens)) c.after_next.ensures c.in_err-right.ensures in
+    let stopped = subst (λ tokens. StopsReading c.in_err-right.field-0.0 (operand tokens)) c.after_next.ensures c.in_err-right.ensures in
     rw (p.1, p.2) (chain_stops c.in_err-right.field-0.0 operand (6 - c.args.below) c.args.depth c.loop.counter c.loop.left c.loop.rest c.in-Some.op (chain_from operand (6 - c.args.below) c.args.depth c.args.left c.args.tokens) c.loop-test.true (sym c.ranked_operator.ensures ∙ c.in-Some.is) stopped c.loop.invariant)
 
 pub chain_from-returns : goal.chain_from-returns

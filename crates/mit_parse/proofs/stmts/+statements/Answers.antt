@@ -1,19 +1,19 @@
 use Rattle.std.proofs.Common.{◌∙◌, sym, rules}
 use Rattle.std.proofs.lemmas.Result.{err_from_is_err_and}
-use Rattle.mit_script.specs.Reading.{loop, statements}
+use Rattle.mit_script.specs.Reading.{statements, while_statement}
 use Rattle.mit_parse.proofs.Loops.{statements_end, statements_go_on, statements_run_out, statements_stop}
 use Rattle.mit_parse.proofs.stmts.+statements.Goals as goal
 
 pub repeated-returns-in_err-condition : goal.repeated-returns-in_err-condition
-unfolding loop
+unfolding while_statement
 repeated-returns-in_err-condition t c = search rules
 
 pub repeated-returns-in_err-condition-2 : goal.repeated-returns-in_err-condition-2
-unfolding loop
+unfolding while_statement
 repeated-returns-in_err-condition-2 t c = search rules
 
 pub repeated-returns : goal.repeated-returns
-unfolding loop
+unfolding while_statement
 repeated-returns t c = search rules
 
 pub statements-returns-then-not-begins_statement : goal.statements-returns-then-not-begins_statement

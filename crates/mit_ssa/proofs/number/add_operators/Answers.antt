@@ -3,12 +3,12 @@ use Rattle.std.proofs.lemmas.Result.{err_from_is_err_and}
 use Rattle.std.proofs.lemmas.Iterator.Adapters.{YieldsList-from_vec}
 use Rattle.std.proofs.lemmas.Iterator.Consumers.{YieldsList-so_far, YieldsList-turn}
 use Rattle.std.proofs.lemmas.List.{append-nil, length_push}
-use Rattle.mit_ssa.specs.PlanFor.{edges_from, ops_in}
+use Rattle.mit_ssa.specs.PlanFor.{operator_edges, ops_in}
 use Rattle.mit_ssa.proofs.Numbered.{length-ops_in, operators_more, operators_stop, taken_apart}
 use Rattle.mit_ssa.proofs.number.add_operators.Goals as goal
 
 pub loop-operator-init : goal.loop-operator-init
-unfolding edges_from ops_in
+unfolding operator_edges ops_in
 loop-operator-init c = record {
   blocks = refl;
   ops = sym (append-nil c.args.lists.ops.items);

@@ -7,7 +7,7 @@ use Rattle.mit_script.specs.Accepted.{checked}
 use Rattle.mit_script.specs.Trees.{IsFormed, statements_of}
 use Rattle.mit_script.specs.declared.tree.Script.{Script}
 use Rattle.mit_ssa.specs.PlanFor.{IsLarge, TellsLarge, plan_of_blocks}
-use Rattle.mit_ssa.specs.Weaving.{Stops, place_of}
+use Rattle.mit_ssa.specs.Weaving.{StopsWeaving, builder_place}
 use Rattle.mit_ssa.specs.Woven.{weave_of, woven_all}
 use Rattle.mit_ssa.proofs.Whole.{many_large, whole_few, whole_fresh, whole_is, whole_stops, whole_woven}
 use Rattle.mit_ssa.proofs.plan.plan_of.Goals as goal
@@ -24,8 +24,8 @@ returns-in_err-last-clause-large c =
     let p = err_from_is_err_and c.from_residual.result c.from_residual.ensures.1 in
     rw (p.1, p.2)
     (whole_stops c.args.typed.now.script c.args.typed.now.types c.start-start.result c.in_err-last.field-0.0 fresh
-    (subst (λ (n : ℕ). Stops n c.in_err-last.field-0.0)
-    (λ i. (woven_all (map (weave_of (c.types.ensures.value i)) (body i)) (place_of c.start-start.result)).operator) c.in_err-last.ensures.large))
+    (subst (λ (n : ℕ). StopsWeaving n c.in_err-last.field-0.0)
+    (λ i. (woven_all (map (weave_of (c.types.ensures.value i)) (body i)) (builder_place c.start-start.result)).operator) c.in_err-last.ensures.large))
 
 pub numbered-requires : goal.numbered-requires
 numbered-requires c =

@@ -2,7 +2,7 @@ use Rattle.std.proofs.Common.{◌≡◌, ◌∙◌, ◌<◌, ◌++◌, ap, arith
 use Rattle.std.specs.Prelude.{option_to_list, slice_set}
 use Rattle.std.proofs.lemmas.List.Edits.{map_over_more}
 use Rattle.mit_rows.specs.Bags.{BagOf}
-use Rattle.mit_engine.specs.Operators.{bag_received, bags_here, feeds}
+use Rattle.mit_engine.specs.Operators.{bag_received, bags_here, feeds_bag}
 use Rattle.mit_engine.specs.declared.edges.Edge.{Edge}
 use Rattle.mit_engine.proofs.OperatorLemmas.{bag_joins, made_all, made_more, no_bag_joins, untouched}
 use Rattle.mit_engine.proofs.edges.Inputs.feed.Goals as goal
@@ -18,7 +18,7 @@ loop-edge-preserved c =
     let after = c.match-feed.bags.items in
     let within : at < length edges = omega arith in
     let bag = c.feed.ensures.bag ∙ ap (λ (e : Edge). bag_received e.received) (sym c.edge-item.is) in
-    let fed = c.feed.ensures.edge ∙ ap feeds (sym c.edge-item.is) in
+    let fed = c.feed.ensures.edge ∙ ap feeds_bag (sym c.edge-item.is) in
     let due = bag_received edge.received in
     let grown : after ≡ before ++ due =
     elim c.match-feed.branch [
@@ -26,10 +26,10 @@ loop-edge-preserved c =
           bag_joins (option_to_list c.feed.result) due before after w.in-Some.bag bag (ap (option_to_list {X = BagOf}) w.in-Some.is) (rw w.bags-is w.in_ok-push.ensures.items)
       | in_default w ↦ no_bag_joins (option_to_list c.feed.result) due before after bag (ap (option_to_list {X = BagOf}) w.in_default.is) (rw w.bags-is)
     ] in
-    let first = untouched feeds edges c.loop-edge.edge-items at edge within c.loop-edge.invariant.edges c.edge-item.is in
+    let first = untouched feeds_bag edges c.loop-edge.edge-items at edge within c.loop-edge.invariant.edges c.edge-item.is in
     record {
       fed = made_more bags_here bags_here due edges at edge before after _ refl within first c.loop-edge.invariant.fed grown;
-      edges = ap (slice_set c.loop-edge.edge-items at) fed ∙ map_over_more feeds edges c.loop-edge.edge-items at edge within c.loop-edge.invariant.edges c.edge-item.is;
+      edges = ap (slice_set c.loop-edge.edge-items at) fed ∙ map_over_more feeds_bag edges c.loop-edge.edge-items at edge within c.loop-edge.invariant.edges c.edge-item.is;
     }
 
 pub returns-clause-fed : goal.returns-clause-fed

@@ -4,7 +4,7 @@ use Rattle.std.proofs.lemmas.List.{get_or-set_same, length-set, set-set}
 use Rattle.std.proofs.lemmas.Option.{slice_get-get_or}
 use Rattle.mit_rows.specs.Bags.{BagOf}
 use Rattle.mit_world.specs.Files.{FileMap}
-use Rattle.mit_engine.specs.Operators.{GivesBag, JobState, after_poll, bags_here, feeds, passed_on, polls, whole, with_operators}
+use Rattle.mit_engine.specs.Operators.{JobState, PollGivesBag, after_poll, bags_here, due_bag, feeds_bag, passed_on, polls, with_operators}
 use Rattle.mit_shelf.specs.Shelf.{Agrees, Kept}
 use Rattle.mit_engine.specs.declared.edges.Edge.{Edge}
 use Rattle.mit_ops.specs.declared.faults.FaultKind.{FaultKind}
@@ -19,12 +19,12 @@ use Rattle.mit_engine.proofs.job.Job.poll.Goals as goal
 
 -- an operator that is fed, and then reports, is polled
 polled : (operators : List Operator) (at : ℕ) (operator fed reported : Operator) (inputs : List Edge) (told : Outcome)
-    → at < length operators → inputs ≡ map feeds operator.inputs
+    → at < length operators → inputs ≡ map feeds_bag operator.inputs
     → fed ≡ get_or (slice_set operators at (record operator { inputs = inputs })) at fed
     → reported ≡ record fed { polled = true; reports = fed.reports ++ told ∷ [] }
     → slice_set (slice_set operators at (record operator { inputs = inputs })) at reported ≡ slice_set operators at (polls told operator)
 polled operators at operator fed reported inputs told within inputs_are fed_is reported_is =
-    let is : fed ≡ record operator { inputs = map feeds operator.inputs } =
+    let is : fed ≡ record operator { inputs = map feeds_bag operator.inputs } =
     fed_is ∙ get_or-set_same operators at (record operator { inputs = inputs }) fed within ∙ ap (λ (edges : List Edge). record operator { inputs = edges }) inputs_are in
     set-set operators at (record operator { inputs = inputs }) reported
     ∙ ap (slice_set operators at) (reported_is ∙ ap (λ (o : Operator). record o { polled = true; reports = o.reports ++ told ∷ [] }) is)
@@ -50,21 +50,21 @@ stopped statement operators after at operator kind is = is
 -- what the code makes of the job that it sees is what a poll tells
 settled : {job view : JobState} {at : ℕ} {operator : Operator} {bags : List BagOf} {all : List Operator} (statement : ThinStep) (shelf : Kept) (made : Result BagOf FaultKind)
     → view ≡ job → at < length view.operators → operator ≡ get_or view.operators at operator → bags ≡ bags_here operator.inputs
-    → all ≡ after_poll statement at operator made view.operators → ((files : FileMap) → Agrees shelf files → whole files statement bags ≡ made)
+    → all ≡ after_poll statement at operator made view.operators → ((files : FileMap) → Agrees shelf files → due_bag files statement bags ≡ made)
     → Polls shelf statement at job (with_operators view all) (slice_get job.operators at)
 settled {job} {view} {at} {operator} {bags} {all} statement shelf made seen within is fed left gives =
     let there : slice_get view.operators at ≡ Some operator = slice_get-get_or view.operators at operator within ∙ ap Some (sym is) in
     let P : Option Operator → Type 0 = Polls shelf statement at view (with_operators view all) in
-    let now : P (Some operator) = (made, ap (with_operators view) left, λ files agrees. ap (whole files statement) (sym fed) ∙ gives files agrees) in
+    let now : P (Some operator) = (made, ap (with_operators view) left, λ files agrees. ap (due_bag files statement) (sym fed) ∙ gives files agrees) in
     let Q : JobState → Type 0 = λ j. Polls shelf statement at j (with_operators view all) (slice_get j.operators at) in
     subst Q seen (subst P (sym there) now)
 
 -- a fault that was answered is what the statement makes
 fault_given : (statement : ThinStep) (bags : List BagOf) (shelf : Kept) (halted : Stop FaultKind) (kind : FaultKind) → halted ≡ stop.Fault kind
-    → ((files : FileMap) → Agrees shelf files → GivesBag (whole files statement bags) (Err halted)) → (files : FileMap) → Agrees shelf files
-    → whole files statement bags ≡ Err kind
+    → ((files : FileMap) → Agrees shelf files → PollGivesBag (due_bag files statement bags) (Err halted)) → (files : FileMap) → Agrees shelf files
+    → due_bag files statement bags ≡ Err kind
 fault_given statement bags shelf halted kind is gives files agrees =
-    let P : Stop FaultKind → Type 0 = λ h. GivesBag (whole files statement bags) (Err h) in subst P is (gives files agrees)
+    let P : Stop FaultKind → Type 0 = λ h. PollGivesBag (due_bag files statement bags) (Err h) in subst P is (gives files agrees)
 
 pub returns-in_ok-pass_on-in-Ok-clause-polled : goal.returns-in_ok-pass_on-in-Ok-clause-polled
 returns-in_ok-pass_on-in-Ok-clause-polled g c =
