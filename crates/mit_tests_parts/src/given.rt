@@ -33,3 +33,13 @@ pub(crate) fn numbers(rt: &(impl Abort + AllocGlobal), numbers: &[u64]) -> Vec<u
 pub(crate) fn folder_of(rt: &(impl Abort + AllocGlobal), rows: &str, fails: &[u64]) -> MemFolder {
     MemFolder::new(files_of(rt, rows), numbers(rt, fails))
 }
+
+/// The names of the files that the folder was asked for, each after a space.
+pub(crate) fn asked(rt: &(impl Abort + AllocGlobal), folder: &MemFolder) -> String {
+    let mut names = String::new(rt.alloc());
+    for name in folder.asked() {
+        names.push(' ').expect(rt, "memory");
+        names.push_str(name).expect(rt, "memory");
+    }
+    names
+}

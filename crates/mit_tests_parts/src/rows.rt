@@ -10,7 +10,7 @@ fn text(rt: &impl Abort, alloc: Global, words: &str) -> Value {
 
 fn row(rt: &impl Abort, values: Vec<Value>) -> Row {
     assert!(rt; values.len() <= MAX_COLUMNS);
-    Row::from_values(values)
+    Row::from_values(values).expect(rt, "memory")
 }
 
 /// Rows from the lowest to the highest.
@@ -23,10 +23,25 @@ fn rising_rows(rt: &impl Abort, alloc: Global) -> Result<Vec<Row>, AllocError> {
     for second in [-1, 2] {
         rows.push(row(rt, vec![in alloc; Value::Int(9), Value::Int(second)]?))?;
     }
+    for length in 3..6 {
+        let mut longer = vec![in alloc; Value::Int(9), Value::Int(2)]?;
+        for _ in 2..length {
+            longer.push(Value::Bool(true))?;
+        }
+        rows.push(row(rt, longer))?;
+    }
     for number in [10, i64::MAX] {
         rows.push(row(rt, vec![in alloc; Value::Int(number)]?))?;
     }
-    for words in ["", "a", "ab", "b", "é"] {
+    for words in [
+        "",
+        "a",
+        "ab",
+        "b",
+        "fourteen bytes",
+        "fourteen bytes, and more",
+        "é",
+    ] {
         rows.push(row(rt, vec![in alloc; text(rt, alloc, words)]?))?;
     }
     for truth in [false, true] {
@@ -65,7 +80,7 @@ fn texts_end_at_the_limit(rt: HostRuntime) -> Result<(), Fail> {
     }
     let longest = Text::from_str(alloc, words.as_str()).expect(&rt, "a text at the limit");
     assert_eq!(rt; longest.bytes().len(), 65_536);
-    let copy = longest.copy(alloc)?;
+    let copy = longest.copy()?;
     assert_eq!(rt; copy.as_str(), words.as_str());
     words.push('x')?;
     assert_eq!(rt;
@@ -78,12 +93,12 @@ fn texts_end_at_the_limit(rt: HostRuntime) -> Result<(), Fail> {
 #[test]
 fn rows_stand_in_order(rt: HostRuntime) -> Result<(), Fail> {
     let rows = rising_rows(&rt, rt.alloc())?;
-    assert_eq!(rt; rows.len(), 16);
+    assert_eq!(rt; rows.len(), 21);
     for (i, a) in rows.iter().enumerate() {
         for (j, b) in rows.iter().enumerate() {
             assert_eq!(rt; cmp_rows(a, b), i.cmp(&j), "rows {i} and {j}");
         }
-        let copy = a.copy(rt.alloc())?;
+        let copy = a.copy()?;
         assert_eq!(rt; cmp_rows(&copy, a), Ordering::Equal, "the copy of row {i}");
     }
     Ok(())

@@ -2,7 +2,7 @@
 ghost use Rattle.std.specs.Prelude.{◌≡◌, []};
 ghost use Rattle.mit_shelf.specs.Staged.{IsFree, with_put};
 
-use crate::given::{files_of, folder_of, numbers, part};
+use crate::given::{asked, files_of, folder_of, numbers, part};
 use mit_rows::{Bag, ColType, Row, Text, Value};
 use mit_shelf::{
     Name, RowsRefused, Shelf, Staged, legal_name, parse_part, parse_rows, print_rows, stage_all,
@@ -39,7 +39,7 @@ fn a_name_keeps_its_text(rt: HostRuntime) {
     assert!(rt; legal_name(name.bytes()));
     let name = Name::from_text(name);
     assert_eq!(rt; name.as_str(), "in.csv");
-    let copy = name.copy(rt.alloc()).expect(&rt, "memory");
+    let copy = name.copy().expect(&rt, "memory");
     assert_eq!(rt; copy.bytes(), b"in.csv".as_slice());
 }
 
@@ -256,7 +256,7 @@ fn bags_are_printed_in_order(rt: HostRuntime) {
 
 fn row(rt: &impl Abort, values: Vec<Value>) -> Row {
     assert!(rt; values.len() <= 16);
-    Row::from_values(values)
+    Row::from_values(values).expect(rt, "memory")
 }
 
 #[test]
@@ -319,6 +319,7 @@ fn a_shelf_asks_for_each_name_once(rt: HostRuntime) {
     for row in rows.split(";") {
         expect_fetched(&rt, &mut shelf, &mut folder, row);
     }
+    assert_eq!(rt; asked(&rt, &folder).as_str(), " a b c c");
     expect_texts(&rt, &shelf);
 }
 

@@ -1,5 +1,5 @@
 //! Files, and the folder, the outbox and the console, in memory and of the host.
-use crate::given::{files_of, folder_of, name_and_bytes, numbers, part};
+use crate::given::{asked, files_of, folder_of, name_and_bytes, numbers, part};
 use mit_world::*;
 use std::fs;
 use std::process::Abort;
@@ -50,6 +50,17 @@ fn a_folder_in_memory_fails_its_second_read(rt: HostRuntime) {
         assert!(rt; found.as_str() == part(row, " => ", 1), "{row}: {found}");
     }
     assert_eq!(rt; folder.calls(), 4);
+}
+
+#[test]
+fn a_folder_in_memory_notes_the_names_in_order(rt: HostRuntime) {
+    let mut folder = folder_of(&rt, "a=1", &[2]);
+    assert_eq!(rt; asked(&rt, &folder).as_str(), "");
+    let mut into = Vec::new(rt.alloc());
+    for name in ["b", "c", "a", "b"] {
+        let _ = folder.read(name, &mut into);
+    }
+    assert_eq!(rt; asked(&rt, &folder).as_str(), " b c a b");
 }
 
 /// Stages a file of one byte, or publishes: the answer, and how many files are staged and published after it.

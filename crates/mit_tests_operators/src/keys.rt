@@ -3,7 +3,8 @@
 use crate::given::{columns, part, spec_of, text};
 use indexmap::IndexMap;
 use mit_ops::{Key, OpSpec, Route, hash_of, route_of, same_key, senders, target, targets};
-use mit_rows::{MAX_COLUMNS, Row, Value};
+use mit_rows::{MAX_COLUMNS, Row, Value, cmp_rows};
+use std::cmp::Ordering;
 use std::process::Abort;
 use std::test::Fail;
 
@@ -23,7 +24,7 @@ fn row_of(rt: &(impl Abort + AllocGlobal), words: &str) -> Row {
         values.push(value_of(rt, value)).expect(rt, "memory");
     }
     assert!(rt; values.len() <= MAX_COLUMNS);
-    Row::from_values(values)
+    Row::from_values(values).expect(rt, "memory")
 }
 
 /// Columns, a row, and the hash of its key.
@@ -67,6 +68,7 @@ const PAIRS: &str = "a|1,'a,true|b|'a,1,true|true;\
     ab|1,'a,true|ab|'a,1,true|false;\
     a|1,'a,true|ab|1,'a,true|false;\
     ab|1,'a,true|a|1,'a,true|false;\
+    aaaaaaaaaaaaaaaaa|1|aaaaaaaaaaaaaaaaa|1,2|true;\
     aa|1|ab|1,1|true;\
     ||a|1|false;\
     |1||2|true;\
@@ -121,11 +123,12 @@ fn keys_lead_to_entries_of_a_map(rt: HostRuntime) -> Result<(), Fail> {
 #[test]
 fn a_whole_row_is_the_key_of_all_its_columns(rt: HostRuntime) -> Result<(), Fail> {
     let row = row_of(&rt, "1,'a,true");
-    let whole = Key::of_row(rt.alloc(), &row)?;
+    let whole = Key::of_row(&row)?;
     let key = Key::of(rt.alloc(), columns(&rt, "abc").as_slice(), &row)?;
     assert!(rt; whole == key);
     assert_eq!(rt; whole.values().len(), 3);
-    assert_eq!(rt; whole.into_values().len(), 3);
+    assert!(rt; whole.values().len() <= MAX_COLUMNS);
+    assert_eq!(rt; cmp_rows(&whole.to_row()?, &row), Ordering::Equal);
     Ok(())
 }
 

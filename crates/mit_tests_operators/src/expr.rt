@@ -68,7 +68,7 @@ fn is_due(outcome: &Result<Value, EvalFault>, due: Due<'_>) -> bool {
 
 /// Evaluates an expression without columns and captured scalars.
 fn expect_due(rt: &(impl Abort + AllocGlobal), expr: Expr, due: Due<'_>) {
-    let row = Row::from_values(Vec::new(rt.alloc()));
+    let row = Row::empty();
     let none: [Value; 0] = [];
     let outcome = eval_at(rt, &expr, &row, none.as_slice());
     assert!(rt;
@@ -416,7 +416,7 @@ fn functions_take_their_type_alone(rt: HostRuntime) {
 
 #[test]
 fn columns_and_captures_are_read(rt: HostRuntime) -> Result<(), Fail> {
-    let row = Row::from_values(vec![in rt.alloc(); Value::Bool(true), Value::Int(5)]?);
+    let row = Row::from_pair(rt.alloc(), Value::Bool(true), Value::Int(5))?;
     let captures = vec![in rt.alloc(); Value::Int(7), Value::Int(-3), Value::Bool(false)]?;
     let sum = bin(&rt, Expr::Column(1), BinOp::Add, Expr::Capture(1));
     let outcome = eval_at(&rt, &sum, &row, &captures);

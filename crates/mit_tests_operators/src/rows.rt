@@ -8,8 +8,8 @@ use crate::expr::types_of;
 use crate::given::{part, spec_of, text};
 use mit_expr::{Expr, type_of};
 use mit_ops::{
-    Agg, Answer, FaultKind, Flat, OpFault, OpSpec, OpStop, Total, cmp_faults, flatten, joined,
-    keeps, row_of_exprs,
+    Agg, Answer, FaultKind, Flat, OpFault, OpSpec, OpStop, Total, cmp_faults, flatten, keeps,
+    row_of_exprs,
 };
 use mit_rows::{Bag, ColType, MAX_COLUMNS, Row, Value};
 use std::alloc::AllocError;
@@ -33,7 +33,7 @@ fn row(rt: &(impl Abort + AllocGlobal), words: &str) -> Row {
         values.push(value(rt, word)).expect(rt, "memory");
     }
     assert!(rt; values.len() <= MAX_COLUMNS);
-    Row::from_values(values)
+    Row::from_values(values).expect(rt, "memory")
 }
 
 fn describe(rt: &(impl Abort + AllocGlobal), value: &Value, words: &mut String) {
@@ -113,7 +113,7 @@ fn give(
         OpSpec::Filter { expr } => {
             assert!(rt; is_typed(ColType::Bool, expr, &columns));
             if keeps(alloc, expr, row, &[])? {
-                out.push(row.copy(alloc)?)?;
+                out.push(row.copy()?)?;
             }
         }
         OpSpec::FlatMap { flat } => {
@@ -234,8 +234,8 @@ fn totals(rt: &(impl Abort + AllocGlobal), agg: Agg, rows: &str) -> Result<Strin
         let row = row(rt, text);
         let columns = types_of(alloc, row.values())?;
         assert!(rt; has_type(agg, &columns));
-        total.add(alloc, &row)?;
-        match total.value(alloc) {
+        total.add(&row)?;
+        match total.value() {
             Ok(value) => describe(rt, &value, &mut words),
             Err(OpStop::Fault(kind)) => {
                 let kind = format!(in alloc; "{kind:?}")?;
@@ -287,7 +287,7 @@ fn a_row_of_nine_columns_is_joined_with_one_of_seven(rt: HostRuntime) {
     let left = row(&rt, "1,2,3,4,5,6,7,8,9");
     let right = row(&rt, "a,b,c,d,e,f,g");
     assert!(&rt; left.values().len() + right.values().len() <= MAX_COLUMNS);
-    let both = joined(rt.alloc(), &left, &right).expect(&rt, "memory");
+    let both = Row::joined(rt.alloc(), &left, &right).expect(&rt, "memory");
     let words = described(&rt, slice::from_ref(&both));
     assert_eq!(&rt; words.as_str(), "1,2,3,4,5,6,7,8,9,a,b,c,d,e,f,g");
 }
