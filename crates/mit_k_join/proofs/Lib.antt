@@ -1,4 +1,3 @@
-pub mod Matching
 pub mod Indexing
 pub mod Parts
 pub mod Closing

@@ -1,8 +1,8 @@
 -- The part of a join as a list of rows.
-use Rattle.std.proofs.Common.{◌≡◌, ◌≤◌, ℕ, List, [], ◌∷◌, ◌++◌, length, take, ap, sym, ◌∙◌, arith, Ok, Some}
+use Rattle.std.proofs.Common.{◌≡◌, ℕ, List, [], ◌∷◌, ◌++◌, length, ap, sym, ◌∙◌, arith, Result, Ok, Err, Some}
+use Rattle.std.specs.Prelude.{OnOk}
 use Rattle.std.specs.FinMap as fin
 use Rattle.std.specs.List.{flat_map}
-use Rattle.std.proofs.lemmas.List.{take_all}
 use Rattle.mit_rows.specs.Bags.{RowOf, bag_of}
 use Rattle.mit_rows.specs.declared.value.Value.{Value}
 use Rattle.mit_world.specs.Files.{FileMap}
@@ -22,12 +22,13 @@ module _ (all : (left right : List ℕ) (lefts rights : List RowOf) (files : Fil
   over_join left right part count (lefts ∷ rights ∷ []) two = sym (all left right lefts rights fin.empty [])
   over_join left right part count (lefts ∷ rights ∷ more ∷ later) two = absurd (omega (arith, two))
 
-  pub join_part : (fed now : Slot) (left right : List ℕ) (lefts rights before after : List RowOf) (i : ℕ) → fed ≡ now → fed.spec ≡ op.Join left right → length fed.lists ≡ 2
-      → lefts ≡ rows_at fed.lists 0 → rights ≡ rows_at fed.lists 1 → length rights ≤ i → after ≡ before ++ flat_map (matches_of left right lefts) (take i rights)
-      → AddsRows (part_in (Some now)) before after
-  join_part fed now left right lefts rights before after i same spec two left_rows right_rows all rows = rw (← same) (
+  pub join_part : {X E : Type 0} (result : Result X E) (fed now : Slot) (left right : List ℕ) (lefts rights before after : List RowOf) → fed ≡ now → fed.spec ≡ op.Join left right → length fed.lists ≡ 2
+      → lefts ≡ rows_at fed.lists 0 → rights ≡ rows_at fed.lists 1 → OnOk result (after ≡ before ++ flat_map (matches_of left right lefts) rights)
+      → OnOk result (AddsRows (part_in (Some now)) before after)
+  join_part (Err e) fed now left right lefts rights before after same spec two left_rows right_rows rows = tt
+  join_part (Ok x) fed now left right lefts rights before after same spec two left_rows right_rows rows = rw (← same) (
     flat_map (matches_of left right lefts) rights,
-    rows ∙ ap (λ t. before ++ flat_map (matches_of left right lefts) t) (take_all i rights all),
+    rows,
     ap (λ t. part_apply t fed.part fed.parts fed.lists fin.empty) spec ∙ over_join left right fed.part fed.parts fed.lists two
         ∙ (λ j. Ok (bag_of (flat_map (matches_of left right (sym left_rows j)) (sym right_rows j)))),
   )

@@ -7,7 +7,7 @@ ghost use Rattle.mit_ops.specs.declared.kinds.OpSpec.TheVariants as op;
 
 use mit_kernel::Fed;
 use mit_keyed::laws::index_law;
-use mit_keyed::{Index, add_matches};
+use mit_keyed::{Index, add_joined};
 use mit_ops::laws::fitting_law;
 use mit_ops::{OpSpec, hash_of};
 use mit_rows::Row;
@@ -128,11 +128,15 @@ impl JoinSlot {
         fitting_law();
         index_law();
         let (left_keys, right_keys) = join_keys(self.fed.spec());
-        let lefts = self.fed.list(0);
-        for right in self.fed.list(1) {
-            let places = self.index.places(hash_of(right_keys, right));
-            add_matches(alloc, lefts, left_keys, places, right, right_keys, out)?;
-        }
-        Ok(())
+        let (lefts, rights) = (self.fed.list(0), self.fed.list(1));
+        add_joined(
+            alloc,
+            &self.index,
+            lefts,
+            left_keys,
+            rights,
+            right_keys,
+            out,
+        )
     }
 }

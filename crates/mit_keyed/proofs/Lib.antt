@@ -3,3 +3,4 @@ pub mod Making
 pub mod Fitting
 pub mod Indexing
 pub mod Matching
+pub mod Pairing

@@ -1,9 +1,7 @@
--- The matches of a right row, place by place, and all matches as a bag.
-use Rattle.std.proofs.Common.{◌≡◌, ℕ, ◌+◌, ◌<◌, Bool, true, false, if◌then◌else◌, eqb, List, [], ◌∷◌, ◌++◌, length, map, take, get_or, Ok, refl, ap, sym, ◌∙◌, append_assoc}
+-- What an index finds has all matches of a right row, and all matches as a bag.
+use Rattle.std.proofs.Common.{◌≡◌, ℕ, Bool, true, false, if◌then◌else◌, eqb, List, [], ◌∷◌, ◌++◌, map, Ok, refl, ap, sym, ◌∙◌}
 use Rattle.std.specs.List.{filter, flat_map}
 use Rattle.std.proofs.lemmas.Bool.{eq-eqb}
-use Rattle.std.proofs.lemmas.List.{get_or_read, map-append, map_more}
-use Rattle.std.proofs.lemmas.List.Elements.{filter-append}
 use Rattle.mit_rows.specs.Bags.{IsBag, RowOf, bag_of}
 use Rattle.mit_rows.specs.declared.value.Value.{Value}
 use Rattle.mit_world.specs.Files.{FileMap}
@@ -30,21 +28,6 @@ filter_within p q (x ∷ xs) h =
     ] refl
 
 module _ (left right : List ℕ) (row : RowOf) where
-  matches_more : (lefts more : List RowOf) → matches_of left right (lefts ++ more) row ≡ matches_of left right lefts row ++ matches_of left right more row
-  matches_more lefts more =
-      ap (map (λ before. before ++ row)) (filter-append (λ before. same_row (key_of right row) (key_of left before)) lefts more)
-      ∙ map-append (λ before. before ++ row) _ _
-
-  pub match_step : (lefts : List RowOf) (places : List ℕ) (i : ℕ) (before : RowOf) (start a b : List RowOf) → i < length places → before ≡ get_or lefts (get_or places i 0) before → get_or places i 0 < length lefts
-      → a ≡ start ++ matches_of left right (rows_at_places lefts (take i places)) row → b ≡ a ++ matches_of left right (before ∷ []) row
-      → b ≡ start ++ matches_of left right (rows_at_places lefts (take (i + 1) places)) row
-  match_step lefts places i before start a b more is at so_far next =
-      next ∙ ap (λ t. t ++ matches_of left right (before ∷ []) row) so_far
-      ∙ append_assoc start _ _
-      ∙ ap (λ t. start ++ t) (sym (matches_more (rows_at_places lefts (take i places)) (before ∷ [])))
-      ∙ ap (λ (t : RowOf). start ++ matches_of left right (rows_at_places lefts (take i places) ++ t ∷ []) row) (get_or_read lefts (get_or places i 0) before at is [])
-      ∙ ap (λ (t : List RowOf). start ++ matches_of left right t row) (sym (map_more (λ place. get_or lefts place []) places i 0 more))
-
   -- rows with one key have one hash
   pub hash_first : (lefts : List RowOf) → matches_of left right (with_hash left (key_hash (key_of right row)) lefts) row ≡ matches_of left right lefts row
   hash_first lefts = ap (map (λ before. before ++ row))

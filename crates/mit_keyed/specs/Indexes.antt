@@ -1,10 +1,11 @@
 -- Devices of the proofs: nobody has to believe them. An index of a join's left rows, and what it finds.
-use Rattle.std.specs.Prelude.{◌≡◌, ◌<◌, ◌-◌, ◌==◌, ℕ, List, [], ◌∷◌, ◌++◌, length, map, take, if◌then◌else◌, slice_index_or, nat_eq}
+use Rattle.std.specs.Prelude.{◌≡◌, ◌<◌, ◌≤◌, ◌+◌, ◌-◌, ◌==◌, ℕ, Bool, List, [], ◌∷◌, ◌++◌, length, map, take, if◌then◌else◌, slice_index_or, nat_eq}
 use Rattle.std.specs.List.{All, filter}
 use Rattle.std.specs.Map.{lookup}
 use Rattle.std.specs.Option.{unwrap_or}
 use Rattle.mit_rows.specs.Bags.{RowOf}
-use Rattle.mit_ops.specs.Forms.{with_key}
+use Rattle.mit_rows.specs.declared.row.TheConstants.{MAX_COLUMNS}
+use Rattle.mit_ops.specs.Forms.{same_row, with_key}
 use Rattle.mit_ops.specs.Keys.{key_hash, key_of}
 use Rattle.mit_keyed.specs.declared.index.Index.{Index}
 
@@ -36,3 +37,24 @@ with_hash columns hash rows = filter (λ row. hash == key_hash (key_of columns r
 pub record IsIndex (columns : List ℕ) (rows : List RowOf) (index : Index) : Type 0 where
   pub found : (hash : ℕ) → rows_at_places rows (places_of index hash) ≡ with_hash columns hash rows
   pub within : (hash : ℕ) → All (λ place. place < length rows) (places_of index hash)
+
+-- ---- pairs of a left row and a right one
+-- these left rows, each with a right one
+abbrev pub pairs_with : RowOf → List RowOf → List (RowOf × RowOf)
+pairs_with row lefts = map (λ before. (before, row)) lefts
+
+-- the left rows at the hash of a right row's key, each with it
+abbrev pub pairs_by_hash : Index → List RowOf → List ℕ → RowOf → List (RowOf × RowOf)
+pairs_by_hash index lefts right row = pairs_with row (rows_at_places lefts (places_of index (key_hash (key_of right row))))
+
+-- both rows have the same key
+abbrev pub has_one_key : List ℕ → List ℕ → RowOf × RowOf → Bool
+has_one_key left right pair = same_row (key_of right pair.1) (key_of left pair.0)
+
+-- both rows are one row together
+abbrev pub IsNarrow : RowOf × RowOf → Type 0
+IsNarrow pair = length pair.0 + length pair.1 ≤ MAX_COLUMNS
+
+-- the left row followed by the right one
+abbrev pub joined_row : RowOf × RowOf → RowOf
+joined_row pair = pair.0 ++ pair.1

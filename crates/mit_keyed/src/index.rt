@@ -97,7 +97,7 @@ impl Index {
     }
 
     /// The places of a hash, in the order in which they came.
-    pub fn places(&self, hash: u64) -> &[usize]
+    pub(crate) fn places(&self, hash: u64) -> &[usize]
         ensures { result.now ≡ places_of self.now hash }
     {
         match self.places.get(&hash) {

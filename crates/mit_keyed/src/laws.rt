@@ -15,7 +15,7 @@ ghost use Rattle.mit_ops.specs.declared.kinds.Agg.{Agg};
 ghost use Rattle.mit_ops.specs.declared.kinds.Agg.TheVariants as agg;
 ghost use Rattle.mit_ops.specs.declared.kinds.OpSpec.TheVariants as op;
 ghost use Rattle.mit_keyed.specs.Groups.{GivesRow, grouped, made_at};
-ghost use Rattle.mit_keyed.specs.Indexes.{IsIndex, Notes, matches_of, places_of, rows_at_places};
+ghost use Rattle.mit_keyed.specs.Indexes.{IsIndex, Notes, matches_of, places_of};
 ghost use Rattle.mit_keyed.specs.declared.index.Index.{Index};
 
 use mit_ops::laws::fitting_groups_law;
@@ -53,7 +53,7 @@ pub fn distinct_law()
         ≡ whole_answer (form_of op.Distinct files captures) (rows ∷ []) }
 {}
 
-/// An index finds, by the hash of its key, all matches of a row, and the matches of all rows are what a join answers.
+/// How an index comes about row by row, and that the matches of all right rows are what a join answers.
 pub fn index_law()
     // an index without places is that of no rows
     ensures none { (columns : List ℕ) (index : Index) →
@@ -62,11 +62,6 @@ pub fn index_law()
     ensures more { (columns : List ℕ) (rows : List RowOf) (row : RowOf) (before after : Index) →
         Notes before after (key_hash (key_of columns row)) (length rows) →
         IsIndex columns rows before → IsIndex columns (rows ++ row ∷ []) after }
-    ensures matches { (left right : List ℕ) (lefts : List RowOf) (row : RowOf) (index : Index) →
-        IsIndex left lefts index →
-        matches_of left right
-        (rows_at_places lefts (places_of index (key_hash (key_of right row)))) row
-        ≡ matches_of left right lefts row }
     ensures whole { (left right : List ℕ) (lefts rights : List RowOf) (files : FileMap)
         (captures : List Value) → Ok (bag_of (flat_map (matches_of left right lefts) rights))
         ≡ whole_answer (form_of (op.Join left right) files captures) (lefts ∷ rights ∷ []) }

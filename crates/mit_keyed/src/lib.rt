@@ -11,5 +11,5 @@ mod reduce;
 pub use distinct::{answer_kept, keep_once};
 pub use index::Index;
 pub use made::{add_made, answer_total};
-pub use matches::add_matches;
+pub use matches::add_joined;
 pub use reduce::{add_to_group, answer_groups};

@@ -9,7 +9,7 @@ ghost use Rattle.mit_keyed.specs.Indexes.{IsIndex};
 
 use crate::loose::Loose;
 use mit_keyed::laws::index_law;
-use mit_keyed::{Index, add_matches};
+use mit_keyed::{Index, add_joined};
 use mit_ops::hash_of;
 use mit_rows::Row;
 use std::alloc::{AllocError, Global};
@@ -30,10 +30,7 @@ pub fn joined_rows(
     index_law();
     let index = indexed(alloc, left, lefts)?;
     let mut made = Vec::new(alloc);
-    for row in rights {
-        let places = index.places(hash_of(right, row));
-        add_matches(alloc, lefts, left, places, row, right, &mut made)?;
-    }
+    add_joined(alloc, &index, lefts, left, rights, right, &mut made)?;
     Ok(Loose::from_rows(made))
 }
 
