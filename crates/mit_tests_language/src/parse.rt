@@ -1,4 +1,4 @@
-//! Scripts that no check accepts. What the parser reads of others, and where it refuses a text, stands in the cases of the top call.
+//! Scripts that no check accepts. What is read of others, and where a text is refused, stands in the cases of the top call.
 use mit_parse::parse;
 use mit_script::print;
 use std::process::Abort;
