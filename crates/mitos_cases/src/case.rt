@@ -140,10 +140,7 @@ pub(crate) fn read_case(
 ) -> Result<Case, Wrong> {
     let begin = *line;
     let mut case = Case::new(alloc, shared)?;
-    for entry in &entries(alloc, lines, line)? {
-        *line = entry.line;
-        case.take(alloc, entry)?;
-    }
+    case.take_lines(alloc, lines, line)?;
     *line = begin;
     case.refuse_missing()?;
     Ok(case)
@@ -177,6 +174,14 @@ impl Case {
                 console_fails: false,
             },
         })
+    }
+
+    fn take_lines(&mut self, alloc: Global, lines: &str, line: &mut u64) -> Result<(), Wrong> {
+        for entry in &entries(alloc, lines, line)? {
+            *line = entry.line;
+            self.take(alloc, entry)?;
+        }
+        Ok(())
     }
 
     fn take(&mut self, alloc: Global, entry: &Entry<'_>) -> Result<(), Wrong> {
@@ -351,9 +356,9 @@ impl Wanted {
 }
 
 fn directive_of(word: &str) -> Result<Directive, Wrong> {
-    for (name, directive) in DIRECTIVES {
-        if name == word {
-            return Ok(directive);
+    for (name, directive) in &DIRECTIVES {
+        if *name == word {
+            return Ok(*directive);
         }
     }
     Err(Wrong::UNKNOWN)
