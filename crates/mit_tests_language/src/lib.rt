@@ -1,12 +1,8 @@
-//! Tests of the language: the tokens of a script, its parser, its check and its blocks.
+//! Tests of what no command shows of the language: the tokens of a script, trees that no check accepts, and blocks.
 #![tactic(auto)]
 
 #[cfg(test)]
 mod cfg;
-#[cfg(test)]
-mod check;
-#[cfg(test)]
-mod given;
 #[cfg(test)]
 mod lex;
 #[cfg(test)]

@@ -5,7 +5,7 @@ use crate::wrong::Wrong;
 use std::alloc::Global;
 
 /// The bytes of a content line, with its line feed. Where the line ends in a backslash alone, there is no line feed.
-pub(crate) fn line_of(alloc: Global, text: &str) -> Result<Vec<u8>, Wrong> {
+pub(crate) fn line_of(alloc: Global, text: &[u8]) -> Result<Vec<u8>, Wrong> {
     let written = Written::of(alloc, text)?;
     match written.state {
         State::Plain => {
@@ -14,16 +14,16 @@ pub(crate) fn line_of(alloc: Global, text: &str) -> Result<Vec<u8>, Wrong> {
             Ok(bytes)
         }
         State::Escape => written.finish(),
-        _ => Err(Wrong::Unfinished),
+        _ => Err(Wrong::UNFINISHED),
     }
 }
 
 /// The bytes of a word.
-pub(crate) fn word_of(alloc: Global, text: &str) -> Result<Vec<u8>, Wrong> {
+pub(crate) fn word_of(alloc: Global, text: &[u8]) -> Result<Vec<u8>, Wrong> {
     let written = Written::of(alloc, text)?;
     match written.state {
         State::Plain => written.finish(),
-        _ => Err(Wrong::Unfinished),
+        _ => Err(Wrong::UNFINISHED),
     }
 }
 
@@ -43,7 +43,7 @@ struct Repeated {
 }
 
 // A piece of a repeated part.
-#[derive(Clone, Copy, Debug, PartialEq, Eq)]
+#[derive(Clone, Copy)]
 enum Piece {
     Byte(u8),
     /// The decimal digits of a number, which is this one where the part comes first.
@@ -51,7 +51,7 @@ enum Piece {
 }
 
 // Where the reading stands.
-#[derive(Clone, Copy, Debug, PartialEq, Eq)]
+#[derive(Clone, Copy)]
 enum State {
     Plain,
     /// After a backslash.
@@ -67,15 +67,15 @@ enum State {
 }
 
 impl Written {
-    fn of(alloc: Global, text: &str) -> Result<Written, Wrong> {
+    fn of(alloc: Global, text: &[u8]) -> Result<Written, Wrong> {
         let mut written = Written {
             alloc,
             bytes: Vec::new(alloc),
             repeated: None,
             state: State::Plain,
         };
-        for byte in text.bytes() {
-            written.state = written.take(byte)?;
+        for byte in text {
+            written.state = written.take(*byte)?;
         }
         Ok(written)
     }
@@ -83,15 +83,38 @@ impl Written {
     // Takes a byte of the text, and tells where the reading stands then.
     fn take(&mut self, byte: u8) -> Result<State, Wrong> {
         match self.state {
-            State::Plain if byte == b'\\' => Ok(State::Escape),
-            State::Plain => self.put(byte),
+            State::Plain => self.plain(byte),
             State::Escape => self.escape(byte),
-            State::Hex => Ok(State::HexAfter(hexadecimal(byte)?)),
-            State::HexAfter(high) => self.put(high.wrapping_mul(16) | hexadecimal(byte)?),
-            State::Count(Some(times)) if byte == b':' => self.repeat(times),
-            State::Count(count) => Ok(State::Count(Some(longer(count, byte)?))),
-            State::Number(Some(first)) if byte == b';' => self.put_number(first),
-            State::Number(first) => Ok(State::Number(Some(longer(first, byte)?))),
+            State::Hex => first_digit(byte),
+            State::HexAfter(high) => self.second_digit(high, byte),
+            State::Count(count) => self.count(count, byte),
+            State::Number(first) => self.number(first, byte),
+        }
+    }
+
+    fn plain(&mut self, byte: u8) -> Result<State, Wrong> {
+        match byte {
+            b'\\' => Ok(State::Escape),
+            _ => self.put(byte),
+        }
+    }
+
+    fn second_digit(&mut self, high: u8, byte: u8) -> Result<State, Wrong> {
+        let low = hexadecimal(byte)?;
+        self.put(high.wrapping_mul(16) | low)
+    }
+
+    fn count(&mut self, count: Option<u32>, byte: u8) -> Result<State, Wrong> {
+        match count {
+            Some(times) if byte == b':' => self.repeat(times),
+            _ => Ok(State::Count(longer_count(count, byte)?)),
+        }
+    }
+
+    fn number(&mut self, first: Option<u32>, byte: u8) -> Result<State, Wrong> {
+        match first {
+            Some(first) if byte == b';' => self.put_number(first),
+            _ => Ok(State::Number(longer_count(first, byte)?)),
         }
     }
 
@@ -105,22 +128,21 @@ impl Written {
             b'{' => Ok(State::Count(None)),
             b'+' => Ok(State::Number(None)),
             b'}' => self.put_repeated(),
-            _ => Err(Wrong::NoEscape),
+            _ => Err(Wrong::NO_ESCAPE),
         }
     }
 
     fn put(&mut self, byte: u8) -> Result<State, Wrong> {
         match &mut self.repeated {
-            Some(repeated) => repeated.part.push(Piece::Byte(byte))?,
-            None => self.bytes.push(byte)?,
+            Some(repeated) => repeated.add(Piece::Byte(byte)),
+            None => push(&mut self.bytes, byte),
         }
-        Ok(State::Plain)
     }
 
     // Begins a part that comes so many times.
     fn repeat(&mut self, times: u32) -> Result<State, Wrong> {
         if self.repeated.is_some() {
-            return Err(Wrong::Nested);
+            return Err(Wrong::NESTED);
         }
         self.repeated = Some(Repeated {
             times,
@@ -132,16 +154,15 @@ impl Written {
     // Puts a number into the repeated part.
     fn put_number(&mut self, first: u32) -> Result<State, Wrong> {
         match &mut self.repeated {
-            Some(repeated) => repeated.part.push(Piece::Number(first))?,
-            None => return Err(Wrong::Uncounted),
+            Some(repeated) => repeated.add(Piece::Number(first)),
+            None => Err(Wrong::UNCOUNTED),
         }
-        Ok(State::Plain)
     }
 
     // Ends the repeated part.
     fn put_repeated(&mut self) -> Result<State, Wrong> {
         let Some(repeated) = self.repeated.take() else {
-            return Err(Wrong::Nested);
+            return Err(Wrong::NESTED);
         };
         for time in 0..repeated.times {
             self.put_part(&repeated.part, time)?;
@@ -152,38 +173,74 @@ impl Written {
     // Puts a repeated part, before which it came so often.
     fn put_part(&mut self, part: &[Piece], time: u32) -> Result<(), Wrong> {
         for piece in part {
-            match piece {
-                Piece::Byte(byte) => self.bytes.push(*byte)?,
-                Piece::Number(first) => {
-                    let number = u64::from(*first) + u64::from(time);
-                    let digits = format!(in self.alloc; "{number}")?;
-                    self.bytes.extend_from_slice(digits.as_bytes())?;
-                }
-            }
+            self.put_piece(*piece, time)?;
         }
         Ok(())
     }
 
+    fn put_piece(&mut self, piece: Piece, time: u32) -> Result<(), Wrong> {
+        match piece {
+            Piece::Byte(byte) => Ok(self.bytes.push(byte)?),
+            Piece::Number(first) => self.put_digits(u64::from(first) + u64::from(time)),
+        }
+    }
+
+    fn put_digits(&mut self, number: u64) -> Result<(), Wrong> {
+        let digits = format!(in self.alloc; "{number}")?;
+        Ok(self.bytes.extend_from_slice(digits.as_bytes())?)
+    }
+
     fn finish(self) -> Result<Vec<u8>, Wrong> {
         if self.repeated.is_some() {
-            return Err(Wrong::Unfinished);
+            return Err(Wrong::UNFINISHED);
         }
         Ok(self.bytes)
     }
 }
 
-fn hexadecimal(byte: u8) -> Result<u8, Wrong> {
-    match char::from(byte).to_digit(16) {
-        Some(digit) => u8::try_from(digit).map_err(|_| Wrong::NotNumber),
-        None => Err(Wrong::NotNumber),
+impl Repeated {
+    fn add(&mut self, piece: Piece) -> Result<State, Wrong> {
+        self.part.push(piece)?;
+        Ok(State::Plain)
     }
 }
 
-// The number whose last digit is this byte, after the digits of that one.
-fn longer(count: Option<u32>, byte: u8) -> Result<u32, Wrong> {
-    let before = count.unwrap_or(0).checked_mul(10);
-    let digit = char::from(byte).to_digit(10).ok_or(Wrong::NotNumber)?;
-    before
-        .and_then(|before| before.checked_add(digit))
-        .ok_or(Wrong::NotNumber)
+fn push(bytes: &mut Vec<u8>, byte: u8) -> Result<State, Wrong> {
+    bytes.push(byte)?;
+    Ok(State::Plain)
+}
+
+fn first_digit(byte: u8) -> Result<State, Wrong> {
+    Ok(State::HexAfter(hexadecimal(byte)?))
+}
+
+fn hexadecimal(byte: u8) -> Result<u8, Wrong> {
+    match byte {
+        b'0'..=b'9' => Ok(byte - b'0'),
+        b'a'..=b'f' => Ok(byte - b'a' + 10),
+        b'A'..=b'F' => Ok(byte - b'A' + 10),
+        _ => Err(Wrong::NOT_NUMBER),
+    }
+}
+
+/// The number whose last digit is this byte, after the digits of that one.
+pub(crate) fn longer(before: u64, byte: u8) -> Result<u64, Wrong> {
+    if !byte.is_ascii_digit() {
+        return Err(Wrong::NOT_NUMBER);
+    }
+    let Some(tens) = before.checked_mul(10) else {
+        return Err(Wrong::NOT_NUMBER);
+    };
+    match tens.checked_add(u64::from(byte - b'0')) {
+        Some(number) => Ok(number),
+        None => Err(Wrong::NOT_NUMBER),
+    }
+}
+
+// The same for a number of 32 bits, whose first digit this may be.
+fn longer_count(before: Option<u32>, byte: u8) -> Result<Option<u32>, Wrong> {
+    match u32::try_from(longer(u64::from(before.unwrap_or(0)), byte)?) {
+        Ok(count) => Ok(Some(count)),
+        Err(_) => Err(Wrong::NOT_NUMBER),
+    }
 }

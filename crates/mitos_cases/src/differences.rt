@@ -41,6 +41,19 @@ impl Differences {
         write!(self.text, " wanted {wanted}, found {found}")
     }
 
+    /// Adds how a number that may be wanted differs, if it does.
+    pub(crate) fn calls(
+        &mut self,
+        what: &str,
+        wanted: Option<u64>,
+        found: u64,
+    ) -> Result<(), AllocError> {
+        match wanted {
+            Some(wanted) => self.number(what, wanted, found),
+            None => Ok(()),
+        }
+    }
+
     /// Adds how bytes differ, if they do.
     pub(crate) fn bytes(
         &mut self,
@@ -66,19 +79,21 @@ impl Differences {
         wanted: &Files,
         found: &Files,
     ) -> Result<(), AllocError> {
-        for place in 0..wanted.len() {
-            let name = wanted.name_at(place);
-            self.file(what, name, wanted.bytes_at(place), found.get(name))?;
+        for (name, bytes) in wanted.iter() {
+            self.file(what, name, bytes, found.get(name))?;
         }
-        for place in 0..found.len() {
-            let name = found.name_at(place);
+        for (name, bytes) in found.iter() {
             if wanted.get(name).is_none() {
-                self.say("no ")?;
-                write!(self.text, "{what} file {name} wanted, found one of ")?;
-                self.show(found.bytes_at(place), 0)?;
+                self.unwanted_file(what, name, bytes)?;
             }
         }
         Ok(())
+    }
+
+    fn unwanted_file(&mut self, what: &str, name: &str, found: &[u8]) -> Result<(), AllocError> {
+        self.say("no ")?;
+        write!(self.text, "{what} file {name} wanted, found one of ")?;
+        self.show(found, 0)
     }
 
     fn file(
@@ -124,10 +139,12 @@ impl Differences {
 
 // The place of the first byte that differs, or the length of the shorter one.
 fn first_difference(wanted: &[u8], found: &[u8]) -> usize {
-    for (place, (left, right)) in wanted.iter().zip(found.iter()).enumerate() {
+    let mut place = 0usize;
+    for (left, right) in wanted.iter().zip(found) {
         if left != right {
-            return place;
+            break;
         }
+        place = place.saturating_add(1);
     }
-    wanted.len().min(found.len())
+    place
 }

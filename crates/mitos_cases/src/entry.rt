@@ -1,7 +1,6 @@
 //! The directives of a section, each with the content that stands below it.
 use crate::content::line_of;
-use crate::section::Section;
-use crate::wrong::{Malformed, Wrong};
+use crate::wrong::Wrong;
 use std::alloc::Global;
 
 /// A directive.
@@ -12,90 +11,86 @@ pub(crate) struct Entry<'a> {
     pub(crate) word: &'a str,
     /// What stands after the word and a blank.
     pub(crate) rest: &'a str,
-    /// What its content lines state, where it has any.
-    pub(crate) content: Option<Vec<u8>>,
+    pub(crate) has_content: bool,
+    /// What its content lines state.
+    pub(crate) content: Vec<u8>,
 }
 
-// The directives read so far. The content that comes next belongs to the open one.
-#[derive(Drop)]
-struct Reader<'a> {
-    entries: Vec<Entry<'a>>,
-    open: Option<Entry<'a>>,
-}
-
-/// The directives of a section. Blank lines and those that begin with `#` end the content of the directive above.
+/// The directives of lines, of which the first has the number after this one. At a refusal that is the number of the line which is
+/// refused. Blank lines and those that begin with `#` end the content of the directive above.
 pub(crate) fn entries<'a>(
     alloc: Global,
-    section: &Section<'a>,
-) -> Result<Vec<Entry<'a>>, Malformed> {
-    let mut reader = Reader {
-        entries: Vec::new(alloc),
-        open: None,
-    };
-    let mut number = section.line;
-    for line in section.lines.iter() {
-        number = number.saturating_add(1);
-        reader
-            .take(alloc, number, line)
-            .map_err(|wrong| wrong.at(number))?;
+    lines: &'a str,
+    number: &mut u64,
+) -> Result<Vec<Entry<'a>>, Wrong> {
+    let mut entries = Vec::new(alloc);
+    let mut is_open = false;
+    for line in lines.split("\n") {
+        *number = number.saturating_add(1);
+        refuse_bytes(line.as_bytes())?;
+        is_open = match line.as_bytes() {
+            [b'|', ..] if !is_open => return Err(Wrong::STRAY),
+            [b'|', content @ ..] => add_content(alloc, &mut entries, content)?,
+            [] | [b'#', ..] => false,
+            _ => add_directive(alloc, &mut entries, *number, line)?,
+        };
     }
-    reader.close().map_err(|wrong| wrong.at(number))?;
-    let Reader { entries, open: _ } = reader;
     Ok(entries)
 }
 
-impl<'a> Reader<'a> {
-    fn take(&mut self, alloc: Global, number: u64, line: &'a str) -> Result<(), Wrong> {
-        if line.bytes().any(|byte| byte < b' ' || byte == 0x7f) {
-            return Err(Wrong::Control);
+// Refuses bytes of a line that have to be written as escapes.
+fn refuse_bytes(line: &[u8]) -> Result<(), Wrong> {
+    for byte in line {
+        if *byte < b' ' || *byte == 0x7f {
+            return Err(Wrong::CONTROL);
         }
-        if line.ends_with(' ') {
-            return Err(Wrong::EndsInBlank);
-        }
-        if let Some(content) = line.strip_prefix('|') {
-            return self.add(alloc, content);
-        }
-        self.close()?;
-        if !line.is_empty() && !line.starts_with('#') {
-            self.open = Some(directive(number, line));
-        }
-        Ok(())
     }
-
-    // Adds a line of content to the open directive.
-    fn add(&mut self, alloc: Global, content: &str) -> Result<(), Wrong> {
-        let Some(entry) = &mut self.open else {
-            return Err(Wrong::Stray);
-        };
-        let bytes = line_of(alloc, text_after_bar(content)?)?;
-        match &mut entry.content {
-            Some(content) => content.extend_from_slice(&bytes)?,
-            None => entry.content = Some(bytes),
-        }
-        Ok(())
-    }
-
-    fn close(&mut self) -> Result<(), Wrong> {
-        if let Some(entry) = self.open.take() {
-            self.entries.push(entry)?;
-        }
-        Ok(())
+    match line {
+        [.., b' '] => Err(Wrong::ENDS_IN_BLANK),
+        _ => Ok(()),
     }
 }
 
-fn directive(line: u64, text: &str) -> Entry<'_> {
-    let (word, rest) = text.split_once(' ').unwrap_or((text, ""));
-    Entry {
+// Adds what stands after the bar of a content line to the last directive, which stays open.
+fn add_content(alloc: Global, entries: &mut Vec<Entry<'_>>, content: &[u8]) -> Result<bool, Wrong> {
+    let bytes = line_of(alloc, text_after_bar(content)?)?;
+    if let Some(entry) = entries.last_mut() {
+        entry.has_content = true;
+        entry.content.extend_from_slice(&bytes)?;
+    }
+    Ok(true)
+}
+
+fn text_after_bar(content: &[u8]) -> Result<&[u8], Wrong> {
+    match content {
+        [] => Ok(content),
+        [b' ', text @ ..] => Ok(text),
+        _ => Err(Wrong::NO_BLANK),
+    }
+}
+
+// Adds a directive, which is open then.
+fn add_directive<'a>(
+    alloc: Global,
+    entries: &mut Vec<Entry<'a>>,
+    line: u64,
+    text: &'a str,
+) -> Result<bool, Wrong> {
+    let (word, rest) = first_word(text);
+    entries.push(Entry {
         line,
         word,
         rest,
-        content: None,
-    }
+        has_content: false,
+        content: Vec::new(alloc),
+    })?;
+    Ok(true)
 }
 
-fn text_after_bar(content: &str) -> Result<&str, Wrong> {
-    if content.is_empty() {
-        return Ok(content);
+/// The part of a text before its first blank, and the part after it.
+pub(crate) fn first_word(text: &str) -> (&str, &str) {
+    match text.split_once(" ") {
+        Some(parts) => parts,
+        None => (text, ""),
     }
-    content.strip_prefix(' ').ok_or(Wrong::NoBlank)
 }

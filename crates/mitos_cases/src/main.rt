@@ -5,9 +5,7 @@
 mod case;
 mod content;
 mod differences;
-mod draft;
 mod entry;
-mod section;
 mod topic;
 mod trial;
 mod words;

@@ -1,8 +1,8 @@
 //! How a case is run.
-use crate::case::{Calls, Case, Wanted};
+use crate::case::{Calls, Case, Kind, Wanted};
 use crate::differences::Differences;
 use mit_app::mitos;
-use mit_world::{MemConsole, MemFolder, MemOutbox};
+use mit_world::{Files, MemConsole, MemFolder, MemOutbox};
 use std::alloc::{AllocError, Global};
 
 /// What a call of this case leaves otherwise than wanted: the empty text where all is as wanted.
@@ -10,17 +10,24 @@ pub(crate) fn run_case(alloc: Global, case: Case) -> Result<String, AllocError> 
     let Case {
         words,
         files,
+        status: wanted,
+        console: bytes,
+        staged,
+        published,
+        calls,
         fails,
-        wanted,
+        stated: _,
     } = case;
     let mut folder = MemFolder::new(files, fails.folder);
     let mut outbox = MemOutbox::new(alloc, fails.outbox);
     let mut console = MemConsole::new(alloc, fails.console);
     let status = status(alloc, &words, &mut folder, &mut outbox, &mut console);
     let mut differences = Differences::new(alloc);
-    differences.number("status", u64::from(wanted.status), u64::from(status))?;
-    compare_contents(&wanted, &outbox, &console, &mut differences)?;
-    compare_calls(wanted.calls, &folder, &outbox, &console, &mut differences)?;
+    differences.number("status", wanted, u64::from(status))?;
+    differences.bytes("console", &bytes, console.bytes())?;
+    differences.files("staged", &staged.files, outbox.staged())?;
+    compare_published(&published, outbox.published(), &mut differences)?;
+    compare_calls(calls, &folder, &outbox, &console, &mut differences)?;
     Ok(differences.text())
 }
 
@@ -35,19 +42,18 @@ fn status(
     mitos(alloc, words, folder, outbox, console)
 }
 
-fn compare_contents(
+fn compare_published(
     wanted: &Wanted,
-    outbox: &MemOutbox,
-    console: &MemConsole,
+    found: Option<&Files>,
     differences: &mut Differences,
 ) -> Result<(), AllocError> {
-    differences.bytes("console", &wanted.console, console.bytes())?;
-    differences.files("staged", &wanted.staged, outbox.staged())?;
-    match (&wanted.published, outbox.published()) {
-        (None, None) => Ok(()),
-        (Some(wanted), Some(found)) => differences.files("published", wanted, found),
-        (None, Some(_)) => differences.say("nothing published was wanted, but files are published"),
-        (Some(_), None) => differences.say("published files were wanted, but nothing is published"),
+    match (wanted.kind, found) {
+        (Kind::Never, None) => Ok(()),
+        (Kind::Never, Some(_)) => differences.say(
+            "nothing published was wanted, but files are published",
+        ),
+        (_, Some(found)) => differences.files("published", &wanted.files, found),
+        (_, None) => differences.say("published files were wanted, but nothing is published"),
     }
 }
 
@@ -58,14 +64,7 @@ fn compare_calls(
     console: &MemConsole,
     differences: &mut Differences,
 ) -> Result<(), AllocError> {
-    if let Some(calls) = wanted.folder {
-        differences.number("calls of the folder", calls, folder.calls())?;
-    }
-    if let Some(calls) = wanted.outbox {
-        differences.number("calls of the outbox", calls, outbox.calls())?;
-    }
-    if let Some(calls) = wanted.console {
-        differences.number("calls of the console", calls, console.calls())?;
-    }
-    Ok(())
+    differences.calls("calls of the folder", wanted.folder, folder.calls())?;
+    differences.calls("calls of the outbox", wanted.outbox, outbox.calls())?;
+    differences.calls("calls of the console", wanted.console, console.calls())
 }

@@ -1,5 +1,5 @@
 //! The words that stand after a directive.
-use crate::content::word_of;
+use crate::content::{longer, word_of};
 use crate::wrong::Wrong;
 use std::alloc::Global;
 
@@ -9,7 +9,7 @@ pub(crate) fn words(alloc: Global, text: &str) -> Result<Vec<String>, Wrong> {
     if text.is_empty() {
         return Ok(words);
     }
-    for written in text.split(' ') {
+    for written in text.split(" ") {
         words.push(word(alloc, written)?)?;
     }
     Ok(words)
@@ -17,8 +17,8 @@ pub(crate) fn words(alloc: Global, text: &str) -> Result<Vec<String>, Wrong> {
 
 /// The word of a text that has just one.
 pub(crate) fn one_word(alloc: Global, text: &str) -> Result<String, Wrong> {
-    if text.is_empty() || text.contains(' ') {
-        return Err(Wrong::NotOneWord);
+    if text.is_empty() || has(text, b' ') {
+        return Err(Wrong::NOT_ONE_WORD);
     }
     word(alloc, text)
 }
@@ -26,7 +26,7 @@ pub(crate) fn one_word(alloc: Global, text: &str) -> Result<String, Wrong> {
 /// The numbers of a text, between which one blank stands.
 pub(crate) fn numbers(alloc: Global, text: &str) -> Result<Vec<u64>, Wrong> {
     let mut numbers = Vec::new(alloc);
-    for digits in text.split(' ') {
+    for digits in text.split(" ") {
         numbers.push(number(digits)?)?;
     }
     Ok(numbers)
@@ -34,10 +34,14 @@ pub(crate) fn numbers(alloc: Global, text: &str) -> Result<Vec<u64>, Wrong> {
 
 /// A number in decimal digits.
 pub(crate) fn number(digits: &str) -> Result<u64, Wrong> {
-    if !digits.bytes().all(|byte| byte.is_ascii_digit()) {
-        return Err(Wrong::NotNumber);
+    if digits.is_empty() {
+        return Err(Wrong::NOT_NUMBER);
     }
-    digits.parse().map_err(|_| Wrong::NotNumber)
+    let mut number = 0;
+    for byte in digits.as_bytes() {
+        number = longer(number, *byte)?;
+    }
+    Ok(number)
 }
 
 // A word in its written form: the empty word is two quotes.
@@ -45,8 +49,21 @@ fn word(alloc: Global, written: &str) -> Result<String, Wrong> {
     if written == "\"\"" {
         return Ok(String::new(alloc));
     }
-    if written.is_empty() || written.contains('"') {
-        return Err(Wrong::Word);
+    if written.is_empty() || has(written, b'"') {
+        return Err(Wrong::WORD);
     }
-    String::from_utf8(word_of(alloc, written)?).map_err(|_| Wrong::NotText)
+    match String::from_utf8(word_of(alloc, written.as_bytes())?) {
+        Ok(word) => Ok(word),
+        Err(_) => Err(Wrong::NOT_TEXT),
+    }
+}
+
+// Whether this byte stands in a text.
+fn has(text: &str, wanted: u8) -> bool {
+    for byte in text.as_bytes() {
+        if *byte == wanted {
+            return true;
+        }
+    }
+    false
 }
