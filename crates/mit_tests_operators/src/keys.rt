@@ -116,16 +116,6 @@ fn by_key(rt: &(impl Abort + AllocGlobal), columns: &str) -> Route {
     Route::ByKey(Columns::from_vec(columns.expect(rt, "memory")))
 }
 
-fn route_named(rt: &(impl Abort + AllocGlobal), name: &str, columns: &str) -> Route {
-    match name {
-        "forward" => Route::Forward,
-        "gather" => Route::Gather,
-        "broadcast" => Route::Broadcast,
-        _ => by_key(rt, columns),
-    }
-}
-
-/// Where a row goes, or 99 where it goes to every partition.
 fn target_or_all(row: &Row, route: &Route, from: u16, parts: u16) -> u16 {
     match route {
         Route::Broadcast => 99,
@@ -134,41 +124,43 @@ fn target_or_all(row: &Row, route: &Route, from: u16, parts: u16) -> u16 {
     }
 }
 
-/// A route, a partition, how many there are, a row, and then where the row goes from there, the first target and their number,
-/// and the first sender and their number. The last four pairs are rows that match in a join by these keys.
-const LEADS: &str = "forward|0|1|1,'a,true|0|0 1|0 1;\
-    forward|3|4|1,'a,true|3|3 1|3 1;\
-    forward|15|16|1,'a,true|15|15 1|15 1;\
-    gather|0|1|1,'a,true|0|0 1|0 1;\
-    gather|0|4|1,'a,true|0|0 1|0 4;\
-    gather|3|4|1,'a,true|0|0 1|0 0;\
-    gather|0|16|1,'a,true|0|0 1|0 16;\
-    gather|15|16|1,'a,true|0|0 1|0 0;\
-    broadcast|0|1|1,'a,true|99|0 1|0 1;\
-    broadcast|3|4|1,'a,true|99|0 4|0 4;\
-    broadcast|15|16|1,'a,true|99|0 16|0 16;\
-    key \0|0|1|1,'a,true|0|0 1|0 1;\
-    key \0|3|4|1,'a,true|2|0 4|0 4;\
-    key \0|15|16|1,'a,true|14|0 16|0 16;\
-    key \u{1}\0|1|16|1,'a,true|13|0 16|0 16;\
-    key |1|16|1,'a,true|5|0 16|0 16;\
-    key \0|0|16|1,'a,true|14|0 16|0 16;\
-    key \u{1}|0|16|'x,1,false|14|0 16|0 16;\
-    key \0\u{1}|0|16|1,'a,true|7|0 16|0 16;\
-    key \u{1}\0|0|16|'a,1,true|7|0 16|0 16;\
-    key \u{1}|0|16|'x,'a|4|0 16|0 16;\
-    key \u{2}|0|16|1,2,'a|4|0 16|0 16;\
-    key \0\u{1}|0|16|1,1|11|0 16|0 16;\
-    key \u{2}\u{2}|0|16|0,0,1|11|0 16|0 16";
+/// For each route a partition, how many there are, a row, and then where the row goes from there, or 99 where it goes to every
+/// partition, the first target and their number, and the first sender and their number.
+const FORWARD: &str = "0|1|1,'a,true|0|0 1|0 1;\
+    3|4|1,'a,true|3|3 1|3 1;\
+    15|16|1,'a,true|15|15 1|15 1";
 
-fn expect_lead(rt: &(impl Abort + AllocGlobal), case: &str) {
-    let at = part(case, "|", 1).parse().expect(rt, "a number");
-    let parts = part(case, "|", 2).parse().expect(rt, "a number");
-    let name = part(case, "|", 0);
-    let route = route_named(rt, part(name, " ", 0), part(name, " ", 1));
-    let (target, targets) = targets(&route, at, parts);
-    let (sender, senders) = senders(&route, at, parts);
-    let to = target_or_all(&row_of(rt, part(case, "|", 3)), &route, at, parts);
+const GATHER: &str = "0|1|1,'a,true|0|0 1|0 1;\
+    0|4|1,'a,true|0|0 1|0 4;\
+    3|4|1,'a,true|0|0 1|0 0;\
+    0|16|1,'a,true|0|0 1|0 16;\
+    15|16|1,'a,true|0|0 1|0 0";
+
+const BROADCAST: &str = "0|1|1,'a,true|99|0 1|0 1;\
+    3|4|1,'a,true|99|0 4|0 4;\
+    15|16|1,'a,true|99|0 16|0 16";
+
+/// The same of keys, after their columns. The last four pairs are rows that match in a join by these keys.
+const BY_KEY: &str = "\0/0|1|1,'a,true|0|0 1|0 1;\
+    \0/3|4|1,'a,true|2|0 4|0 4;\
+    \0/15|16|1,'a,true|14|0 16|0 16;\
+    \u{1}\0/1|16|1,'a,true|13|0 16|0 16;\
+    /1|16|1,'a,true|5|0 16|0 16;\
+    \0/0|16|1,'a,true|14|0 16|0 16;\
+    \u{1}/0|16|'x,1,false|14|0 16|0 16;\
+    \0\u{1}/0|16|1,'a,true|7|0 16|0 16;\
+    \u{1}\0/0|16|'a,1,true|7|0 16|0 16;\
+    \u{1}/0|16|'x,'a|4|0 16|0 16;\
+    \u{2}/0|16|1,2,'a|4|0 16|0 16;\
+    \0\u{1}/0|16|1,1|11|0 16|0 16;\
+    \u{2}\u{2}/0|16|0,0,1|11|0 16|0 16";
+
+fn expect_lead(rt: &(impl Abort + AllocGlobal), route: &Route, case: &str) {
+    let at = part(case, "|", 0).parse().expect(rt, "a number");
+    let parts = part(case, "|", 1).parse().expect(rt, "a number");
+    let (target, targets) = targets(route, at, parts);
+    let (sender, senders) = senders(route, at, parts);
+    let to = target_or_all(&row_of(rt, part(case, "|", 2)), route, at, parts);
     let found = format!(in rt.alloc(); "|{to}|{target} {targets}|{sender} {senders}");
     assert!(rt;
         case.ends_with(found.expect(rt, "memory").as_str()),
@@ -176,9 +168,23 @@ fn expect_lead(rt: &(impl Abort + AllocGlobal), case: &str) {
     );
 }
 
+fn expect_leads(rt: &(impl Abort + AllocGlobal), route: &Route, cases: &str) {
+    for case in cases.split(";") {
+        expect_lead(rt, route, case);
+    }
+}
+
 #[test]
-fn routes_lead_to_partitions_where_rows_of_one_key_meet(rt: HostRuntime) {
-    for case in LEADS.split(";") {
-        expect_lead(&rt, case);
+fn routes_lead_to_partitions(rt: HostRuntime) {
+    expect_leads(&rt, &Route::Forward, FORWARD);
+    expect_leads(&rt, &Route::Gather, GATHER);
+    expect_leads(&rt, &Route::Broadcast, BROADCAST);
+}
+
+#[test]
+fn rows_of_one_key_meet(rt: HostRuntime) {
+    for case in BY_KEY.split(";") {
+        let route = by_key(&rt, part(case, "/", 0));
+        expect_lead(&rt, &route, part(case, "/", 1));
     }
 }

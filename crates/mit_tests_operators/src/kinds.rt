@@ -123,15 +123,18 @@ fn are_bags(bags: &[VarType]) -> bool
     bags.iter().all(|bag| is_bag(bag))
 }
 
-/// What an operator gives over as many of these two bags as it takes.
+/// As many of these bags as an operator takes.
+fn taken<'a>(op: &OpSpec, bags: &'a [VarType]) -> &'a [VarType] {
+    let (taken, _) = bags.split_at(bags.len().min(usize::from(op.bag_inputs())));
+    taken
+}
+
 fn given(
     rt: &(impl Abort + AllocGlobal),
     op: &OpSpec,
     bags: &[VarType],
     captures: &[ColType],
 ) -> Result<VarType, OpRefused> {
-    let taken = usize::from(op.bag_inputs()).min(bags.len());
-    let (bags, _) = bags.split_at(taken);
     assert!(rt; bags.len() == usize::from(op.bag_inputs()));
     assert!(rt; are_bags(bags));
     result_type(rt.alloc(), op, bags, captures)
@@ -161,29 +164,8 @@ fn more_than_16_captured_scalars_are_refused_and_fewer_than_are_named(rt: HostRu
     let bags = [bag(&rt, "ITB"), bag(&rt, "ITB")];
     let captures = types(&rt, "TIBIIIIIIIIIIIIII");
     for stmt in script.body.as_slice() {
-        expect_limits(&rt, op_of(stmt), &bags, &captures);
-    }
-}
-
-/// An operator that names no column and no type.
-fn without_columns(rt: &(impl Abort + AllocGlobal), name: &str) -> OpSpec {
-    let alloc = rt.alloc();
-    match name {
-        "map" => OpSpec::Map {
-            exprs: Exprs::from_vec(Vec::new(alloc)),
-        },
-        "join" => OpSpec::Join {
-            left: Columns::from_vec(Vec::new(alloc)),
-            right: Columns::from_vec(Vec::new(alloc)),
-        },
-        "reduce" => OpSpec::Reduce {
-            keys: Columns::from_vec(Vec::new(alloc)),
-            agg: Agg::Count,
-        },
-        "empty" => OpSpec::Empty {
-            types: ColTypes::from_vec(Vec::new(alloc)),
-        },
-        _ => OpSpec::Union,
+        let op = op_of(stmt);
+        expect_limits(&rt, op, taken(op, &bags), &captures);
     }
 }
 
@@ -194,28 +176,48 @@ fn has_types(found: &Result<VarType, OpRefused>, due: &[ColType]) -> bool {
     }
 }
 
-fn expect_types(rt: &(impl Abort + AllocGlobal), name: &str, bags: &[VarType], due: &[ColType]) {
-    let op = without_columns(rt, name);
-    let found = given(rt, &op, bags, &[]);
-    assert!(rt; has_types(&found, due), "{name}");
+fn expect_types(rt: &(impl Abort + AllocGlobal), op: &OpSpec, bags: &[VarType], due: &[ColType]) {
+    let found = given(rt, op, bags, &[]);
+    assert!(rt; has_types(&found, due), "{op:?}");
 }
 
 #[test]
-fn operators_may_name_no_column(rt: HostRuntime) {
-    let bags = [bag(&rt, "IT"), bag(&rt, "B")];
-    let joined = [ColType::Int, ColType::Text, ColType::Bool];
-    expect_types(&rt, "map", &bags, &[]);
-    expect_types(&rt, "join", &bags, &joined);
-    expect_types(&rt, "reduce", &bags, &[ColType::Int]);
-    expect_types(&rt, "empty", &bags, &[]);
+fn a_map_without_expressions_gives_no_column(rt: HostRuntime) {
+    let exprs = Exprs::from_vec(Vec::new(rt.alloc()));
+    expect_types(&rt, &OpSpec::Map { exprs }, &[bag(&rt, "ITB")], &[]);
+}
+
+#[test]
+fn a_count_without_keys_gives_a_number(rt: HostRuntime) {
+    let count = OpSpec::Reduce {
+        keys: Columns::from_vec(Vec::new(rt.alloc())),
+        agg: Agg::Count,
+    };
+    expect_types(&rt, &count, &[bag(&rt, "ITB")], &[ColType::Int]);
 }
 
 #[test]
 fn bags_may_have_no_column(rt: HostRuntime) {
+    let types = ColTypes::from_vec(Vec::new(rt.alloc()));
+    expect_types(&rt, &OpSpec::Empty { types }, &[], &[]);
     let bags = [bag(&rt, ""), bag(&rt, "")];
-    expect_types(&rt, "union", &bags, &[]);
-    let found = given(&rt, &OpSpec::Only, &bags, &[]).err();
+    expect_types(&rt, &OpSpec::Union, &bags, &[]);
+    let found = given(&rt, &OpSpec::Only, &[bag(&rt, "")], &[]).err();
     assert!(rt; found == Some(OpRefused::WrongType));
+}
+
+fn join_without_keys(rt: &(impl Abort + AllocGlobal)) -> OpSpec {
+    OpSpec::Join {
+        left: Columns::from_vec(Vec::new(rt.alloc())),
+        right: Columns::from_vec(Vec::new(rt.alloc())),
+    }
+}
+
+#[test]
+fn a_join_without_keys_has_the_columns_of_both_bags(rt: HostRuntime) {
+    let due = [ColType::Int, ColType::Text, ColType::Bool];
+    let bags = [bag(&rt, "IT"), bag(&rt, "B")];
+    expect_types(&rt, &join_without_keys(&rt), &bags, &due);
 }
 
 fn is_empty_key(route: &Route) -> bool {
@@ -235,7 +237,7 @@ fn expect_empty_key(rt: &(impl Abort + AllocGlobal), join: &OpSpec, input: u16) 
 
 #[test]
 fn a_join_without_keys_goes_by_none(rt: HostRuntime) {
-    let join = without_columns(&rt, "join");
+    let join = join_without_keys(&rt);
     expect_empty_key(&rt, &join, 0);
     expect_empty_key(&rt, &join, 1);
 }

@@ -57,34 +57,30 @@ fn the_rows_of_a_total_are_counted(rt: HostRuntime) -> Result<(), Fail> {
 }
 
 /// Rising faults: their rows and their kinds.
-const RISING: &str = "-1|limit;2|overflow;2|not one but 7;2|not one but 8;2,0|overflow;'a|overflow";
+const RISING: [(&str, FaultKind); 6] = [
+    ("-1", FaultKind::DecisionLimit),
+    ("2", FaultKind::Overflow),
+    ("2", FaultKind::NotOne(7)),
+    ("2", FaultKind::NotOne(8)),
+    ("2,0", FaultKind::Overflow),
+    ("'a", FaultKind::Overflow),
+];
 
-fn kind_of(words: &str) -> FaultKind {
-    match words {
-        "limit" => FaultKind::DecisionLimit,
-        "not one but 7" => FaultKind::NotOne(7),
-        "not one but 8" => FaultKind::NotOne(8),
-        _ => FaultKind::Overflow,
-    }
-}
-
-fn fault_of(rt: &(impl Abort + AllocGlobal), words: &str) -> OpFault {
-    let kind = kind_of(part(words, "|", 1));
-    let at = row_of(rt, part(words, "|", 0));
+fn fault_of(rt: &(impl Abort + AllocGlobal), row: &str, kind: FaultKind) -> OpFault {
+    let at = row_of(rt, row);
     OpFault { at, kind }
 }
 
-fn expect_order(rt: &(impl Abort + AllocGlobal), place: usize, words: &str) {
-    let fault = fault_of(rt, words);
-    for (other, words) in RISING.split(";").enumerate() {
-        let above = fault_of(rt, words);
-        assert!(rt; cmp_faults(&fault, &above) == place.cmp(&other), "{words}");
+fn expect_order(rt: &(impl Abort + AllocGlobal), place: usize, fault: &OpFault) {
+    for (other, (row, kind)) in RISING.iter().enumerate() {
+        let above = fault_of(rt, row, *kind);
+        assert!(rt; cmp_faults(fault, &above) == place.cmp(&other), "{row}");
     }
 }
 
 #[test]
 fn faults_are_ordered_by_their_rows_first(rt: HostRuntime) {
-    for (place, words) in RISING.split(";").enumerate() {
-        expect_order(&rt, place, words);
+    for (place, (row, kind)) in RISING.iter().enumerate() {
+        expect_order(&rt, place, &fault_of(&rt, row, *kind));
     }
 }
