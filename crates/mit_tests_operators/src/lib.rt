@@ -1,16 +1,14 @@
-//! Tests of operators: the values and types of expressions, the types of results, keys and routes, what rows give, and the
-//! printed text of scripts that are made of operators.
+//! Tests of what no command shows of operators: keys and where they lead, the numbers and copies of operators, types that no
+//! script asks for, totals and answers row by row, and the printed text of trees without a type.
 #![tactic(auto)]
 
-#[cfg(test)]
-mod expr;
 #[cfg(test)]
 mod given;
 #[cfg(test)]
 mod keys;
 #[cfg(test)]
-mod ops;
+mod kinds;
+#[cfg(test)]
+mod printed;
 #[cfg(test)]
 mod rows;
-#[cfg(test)]
-mod script;
