@@ -136,8 +136,8 @@ fn perform<F: Folder, O: Outbox, C: Console>(
     }
 }
 
-/// Runs the script of this name under a schedule, and publishes its files.
-pub(crate) fn run_and_publish<S: Schedule, F: Folder, O: Outbox, C: Console>(
+// Runs the script of this name under a schedule, and publishes its files.
+fn run_and_publish<S: Schedule, F: Folder, O: Outbox, C: Console>(
     alloc: Global,
     name: &str,
     schedule: &mut S,

@@ -12,8 +12,6 @@ mod run;
 mod script;
 mod show;
 mod step;
-#[cfg(test)]
-mod tests;
 mod thin;
 mod words;
 

@@ -1,3 +1,0 @@
-mod schedules;
-mod thin;
-mod world;
