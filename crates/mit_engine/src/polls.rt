@@ -1,5 +1,5 @@
 //! What a poll makes of an operator's inputs.
-ghost use Rattle.std.specs.Prelude.{◌≡◌, ◌≢◌, ◌≤◌, IfErr, IfSome};
+ghost use Rattle.std.specs.Prelude.{◌≡◌, ◌≢◌, ◌≤◌, IfErr, IfSome, length};
 ghost use Rattle.mit_world.specs.Files.{FileMap};
 ghost use Rattle.mit_world.specs.Outside.{Rose};
 ghost use Rattle.mit_engine.specs.Operators as spec;
@@ -65,14 +65,23 @@ fn read<F: Folder>(
     }
 }
 
-// The bag of a file's rows.
+// The bag of a file's rows of so many integers.
 fn bag_of(alloc: Global, bytes: &[u8], columns: u8) -> Result<Bag, Stop<FaultKind>>
     requires { columns ≤ MAX_COLUMNS }
     ensures bag { spec.PollGivesBag (bag_of_rows (rows_of bytes.now (integers columns))) result }
     ensures own { IfErr result (λ stop. stop ≢ Stop.Folder) }
 {
     let types = [ColType::Int; MAX_COLUMNS];
-    match parse_rows(alloc, bytes, &types[..usize::from(columns)]) {
+    bag_with(alloc, bytes, &types[..usize::from(columns)])
+}
+
+// The bag of a file's rows with columns of these types.
+fn bag_with(alloc: Global, bytes: &[u8], types: &[ColType]) -> Result<Bag, Stop<FaultKind>>
+    requires { length types.now ≤ MAX_COLUMNS }
+    ensures bag { spec.PollGivesBag (bag_of_rows (rows_of bytes.now types.now)) result }
+    ensures own { IfErr result (λ stop. stop ≢ Stop.Folder) }
+{
+    match parse_rows(alloc, bytes, types) {
         Ok(rows) => match Bag::from_rows(rows) {
             Ok(bag) => Ok(bag),
             Err(_) => Err(Stop::NoMemory),
