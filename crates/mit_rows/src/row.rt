@@ -5,6 +5,7 @@ ghost use Rattle.mit_rows.specs.Stored.{Leads};
 use crate::value::Value;
 use std::alloc::{AllocError, Global};
 use std::cmp::Ordering;
+use std::fmt::{self, Debug, Formatter, Write};
 use std::marker::Model;
 use std::rc::Rc;
 use std::slice;
@@ -13,14 +14,14 @@ use std::slice;
 pub const MAX_COLUMNS: usize = 16;
 
 /// A row of at most `MAX_COLUMNS` values, which contracts see as their list. Copies share their values.
-#[derive(Debug, Drop)]
+#[derive(Drop)]
 pub struct Row {
     stored: Stored,
 }
 
 // Few reads tell two rows apart: those of their first integers, or of the fronts of their first texts, which stand in the
 // rows themselves.
-#[derive(Clone, Copy, Debug)]
+#[derive(Clone, Copy)]
 enum Lead {
     // the first value is this integer
     Number(i64),
@@ -29,7 +30,6 @@ enum Lead {
     Other,
 }
 
-#[derive(Debug)]
 enum Stored {
     Nothing,
     One(Value),
@@ -159,18 +159,9 @@ impl Row {
     {
         match (left.values(), right.values()) {
             ([a], [b]) => Row::from_pair(alloc, a.copy()?, b.copy()?),
-            ([a], [b, c]) | ([a, b], [c]) => {
-                Row::from_three(alloc, [a.copy()?, b.copy()?, c.copy()?])
-            }
-            ([a, b], [c, d]) => {
-                Row::from_four(alloc, [a.copy()?, b.copy()?, c.copy()?, d.copy()?])
-            }
-            (left, right) => {
-                let mut values = Vec::with_capacity(alloc, left.len() + right.len())?;
-                add_copies(left, &mut values)?;
-                add_copies(right, &mut values)?;
-                Row::from_values(values)
-            }
+            ([a], [b, c]) | ([a, b], [c]) => copied_three(alloc, a, b, c),
+            ([a, b], [c, d]) => copied_four(alloc, a, b, c, d),
+            (left, right) => copied_all(alloc, left, right),
         }
     }
 
@@ -218,6 +209,43 @@ impl Row {
         };
         Ok(Row { stored })
     }
+}
+
+impl Debug for Row {
+    fn fmt<W: Write>(&self, f: &mut Formatter<W>) -> fmt::Result {
+        Debug::fmt(self.values(), f)
+    }
+}
+
+// A row of copies of these three values.
+fn copied_three(alloc: Global, a: &Value, b: &Value, c: &Value) -> Result<Row, AllocError>
+    ensures { IfOk result (λ row. row ≡ a.now ∷ b.now ∷ c.now ∷ []) }
+{
+    Row::from_three(alloc, [a.copy()?, b.copy()?, c.copy()?])
+}
+
+// A row of copies of these four values.
+fn copied_four(
+    alloc: Global,
+    a: &Value,
+    b: &Value,
+    c: &Value,
+    d: &Value,
+) -> Result<Row, AllocError>
+    ensures { IfOk result (λ row. row ≡ a.now ∷ b.now ∷ c.now ∷ d.now ∷ []) }
+{
+    Row::from_four(alloc, [a.copy()?, b.copy()?, c.copy()?, d.copy()?])
+}
+
+// A row of copies of the values of one list and then of another.
+fn copied_all(alloc: Global, left: &[Value], right: &[Value]) -> Result<Row, AllocError>
+    requires { length left.now + length right.now ≤ MAX_COLUMNS }
+    ensures { IfOk result (λ row. row ≡ left.now ++ right.now) }
+{
+    let mut values = Vec::with_capacity(alloc, left.len() + right.len())?;
+    add_copies(left, &mut values)?;
+    add_copies(right, &mut values)?;
+    Row::from_values(values)
 }
 
 // The last value, taken out.

@@ -2,6 +2,7 @@ ghost use Rattle.std.specs.Prelude.{◌≡◌, ◌≤◌, ◌<◌, ◌↔◌, If
 ghost use Rattle.mit_rows.specs.Stored.{HeldRight, IsFront, held_bytes};
 
 use std::alloc::{AllocError, Global};
+use std::fmt::{self, Debug, Formatter, Write};
 use std::marker::Model;
 use std::rc::Rc;
 
@@ -21,13 +22,12 @@ pub enum TextRefused {
 }
 
 /// UTF-8 text of at most `MAX_TEXT` bytes, which contracts see as its bytes.
-#[derive(Debug, Drop)]
+#[derive(Drop)]
 pub struct Text {
     held: Held,
 }
 
 // A short text takes no memory of its own, and copies of a longer one share theirs.
-#[derive(Debug)]
 enum Held {
     // so many of these bytes
     Short(u8, [u8; MAX_SHORT]),
@@ -120,6 +120,12 @@ impl Text {
             Held::Long(text) => Held::Long(text.clone()?),
         };
         Ok(Text { held })
+    }
+}
+
+impl Debug for Text {
+    fn fmt<W: Write>(&self, f: &mut Formatter<W>) -> fmt::Result {
+        Debug::fmt(self.as_str(), f)
     }
 }
 
