@@ -1,4 +1,4 @@
-ghost use Rattle.std.specs.Prelude.{◌≡◌, ◌≤◌, ◌<◌, ◌+◌, ◌++◌, ◌∷◌, [], IfOk, OnOk, length, vec_len};
+ghost use Rattle.std.specs.Prelude.{◌≡◌, ◌≤◌, ◌<◌, ◌+◌, ◌++◌, ◌∷◌, [], IfOk, OnOk, Some, length, slice_get, vec_len};
 ghost use Rattle.mit_rows.specs.Order.{row_cmp, value_cmp};
 ghost use Rattle.mit_rows.specs.Stored.{Leads};
 
@@ -157,11 +157,23 @@ impl Row {
         requires { length left.now + length right.now ≤ MAX_COLUMNS }
         ensures { IfOk result (λ row. row ≡ left.now ++ right.now) }
     {
-        match (left.values(), right.values()) {
-            ([a], [b]) => Row::from_pair(alloc, a.copy()?, b.copy()?),
-            ([a], [b, c]) | ([a, b], [c]) => copied_three(alloc, a, b, c),
-            ([a, b], [c, d]) => copied_four(alloc, a, b, c, d),
-            (left, right) => copied_all(alloc, left, right),
+        let (left, right) = (left.values(), right.values());
+        match left.len() + right.len() {
+            2 => copied_pair(alloc, value_at(left, right, 0), value_at(left, right, 1)),
+            3 => copied_three(
+                alloc,
+                value_at(left, right, 0),
+                value_at(left, right, 1),
+                value_at(left, right, 2),
+            ),
+            4 => copied_four(
+                alloc,
+                value_at(left, right, 0),
+                value_at(left, right, 1),
+                value_at(left, right, 2),
+                value_at(left, right, 3),
+            ),
+            _ => copied_all(alloc, left, right),
         }
     }
 
@@ -215,6 +227,26 @@ impl Debug for Row {
     fn fmt<W: Write>(&self, f: &mut Formatter<W>) -> fmt::Result {
         Debug::fmt(self.values(), f)
     }
+}
+
+// The value at this place of one list and then of another.
+#[inline]
+fn value_at<'a>(left: &'a [Value], right: &'a [Value], place: usize) -> &'a Value
+    requires { place < length left.now + length right.now }
+    ensures { slice_get (left.now ++ right.now) place ≡ Some result.now }
+{
+    if place < left.len() {
+        &left[place]
+    } else {
+        &right[place - left.len()]
+    }
+}
+
+// A row of copies of these two values.
+fn copied_pair(alloc: Global, a: &Value, b: &Value) -> Result<Row, AllocError>
+    ensures { IfOk result (λ row. row ≡ a.now ∷ b.now ∷ []) }
+{
+    Row::from_pair(alloc, a.copy()?, b.copy()?)
 }
 
 // A row of copies of these three values.

@@ -6,6 +6,7 @@ ghost use Rattle.std.specs.IoError.{error_kind};
 ghost use Rattle.mit_world.specs.Outside.{IfFailed, Rose};
 
 use crate::outside::{Console, Folder, Outbox, OutsideStop};
+use std::alloc::{AllocError, Global};
 use std::fmt::Display;
 use std::io::{ErrorKind, Print, Read, Write};
 use std::marker::Model;
@@ -213,15 +214,30 @@ fn length_of<R: FileSystem>(rt: &R, name: &str) -> io::Result<Option<u64>> {
     Ok(Some(found.len()))
 }
 
-// Appends the file's bytes, or answers false where there is no file of this name. One byte more than the file's length
-// is kept free, so that the read at its end needs no more room.
+// Appends the file's bytes, or answers false where there is no file of this name.
 fn append_file<R: FileSystem>(rt: &R, name: &str, into: &mut Vec<u8>) -> io::Result<bool>
     ensures appends { StartsWith into.new.items into.old.items }
     ensures absent { IfOk result (λ found. found ≡ false → into.new.items ≡ into.old.items) }
 {
-    let Some(length) = length_of(rt, name)? else {
-        return Ok(false);
-    };
+    match length_of(rt, name)? {
+        Some(length) => {
+            append_bytes(rt, name, length, into)?;
+            Ok(true)
+        }
+        None => Ok(false),
+    }
+}
+
+// Appends the bytes of a file that has so many. One byte more is kept free, so that the read at its end needs no more
+// room.
+fn append_bytes<R: FileSystem>(
+    rt: &R,
+    name: &str,
+    length: u64,
+    into: &mut Vec<u8>,
+) -> io::Result<()>
+    ensures { StartsWith into.new.items into.old.items }
+{
     if length > LONGEST_FILE {
         return Err(io::Error::from(ErrorKind::FileTooLarge));
     }
@@ -231,7 +247,7 @@ fn append_file<R: FileSystem>(rt: &R, name: &str, into: &mut Vec<u8>) -> io::Res
     if appended as u64 > LONGEST_FILE {
         return Err(io::Error::from(ErrorKind::FileTooLarge));
     }
-    Ok(true)
+    Ok(())
 }
 
 // Makes the folder of the staged files, without any file, unless it is open already.
@@ -259,10 +275,19 @@ fn stage_file<R: FileSystem + Eprint + AllocGlobal>(
 ) -> io::Result<()> {
     said(rt, format_args!("write {name:?}"), check_name(name))?;
     open_staged(rt, is_open)?;
-    let mut path = String::from_str(rt.alloc(), STAGED)?;
+    let path = staged_path(rt.alloc(), name)?;
+    write_file(rt, path.as_str(), bytes)
+}
+
+// Where the staged file of this name stands.
+fn staged_path(alloc: Global, name: &str) -> Result<String, AllocError> {
+    let mut path = String::from_str(alloc, STAGED)?;
     path.push('/')?;
     path.push_str(name)?;
-    let path = path.as_str();
+    Ok(path)
+}
+
+fn write_file<R: FileSystem + Eprint>(rt: &R, path: &str, bytes: &[u8]) -> io::Result<()> {
     said(
         rt,
         format_args!("write {path:?}"),
