@@ -257,13 +257,7 @@ fn copied_three(alloc: Global, a: &Value, b: &Value, c: &Value) -> Result<Row, A
 }
 
 // A row of copies of these four values.
-fn copied_four(
-    alloc: Global,
-    a: &Value,
-    b: &Value,
-    c: &Value,
-    d: &Value,
-) -> Result<Row, AllocError>
+fn copied_four(alloc: Global, a: &Value, b: &Value, c: &Value, d: &Value) -> Result<Row, AllocError>
     ensures { IfOk result (λ row. row ≡ a.now ∷ b.now ∷ c.now ∷ d.now ∷ []) }
 {
     Row::from_four(alloc, [a.copy()?, b.copy()?, c.copy()?, d.copy()?])
