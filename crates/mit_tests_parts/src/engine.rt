@@ -3,54 +3,37 @@ ghost use Rattle.std.specs.Prelude.{IfOk};
 ghost use Rattle.mit_engine.specs.Thin.{IsFormedThin};
 ghost use Rattle.mit_shelf.specs.Names.{IsLegal};
 
-use crate::given::{folder_of, part};
-use mit_engine::{Done, Pick, Schedule, Seeded, Thin, ThinStep, run_thin};
-use mit_rows::Text;
-use mit_shelf::{Name, Shelf, legal_name};
-use mit_world::Files;
+use crate::given::{folder_of, name_of};
+use crate::schedules::{Entry, Steady};
+use mit_engine::{Done, Schedule, Seeded, Thin, ThinStep, run_thin};
+use mit_ops::{FaultKind, ScriptFault};
+use mit_shelf::{Name, Shelf, Stop};
 use std::alloc::{AllocError, Global};
 use std::process::Abort;
-use std::test::Fail;
 
-/// The next pick of any schedule.
-fn draw<S: Schedule>(rt: &impl Abort, schedule: &mut S, offered: u64) -> Result<u64, AllocError> {
-    assert!(rt; offered > 0);
-    schedule.pick(offered)
+/// The next pick of a seeded schedule.
+fn drawn(schedule: &mut Seeded, offered: u64) -> Option<u64> {
+    if offered == 0 {
+        return None;
+    }
+    schedule.pick(offered).ok()
 }
 
 // The words of PCG32 that `rand` seeds with 0 are 298703107, 4236525527, ..
 #[test]
-fn a_seed_gives_its_picks(rt: HostRuntime) -> Result<(), Fail> {
+fn a_seed_gives_its_picks(rt: HostRuntime) {
     let mut schedule = Seeded::new(rt.alloc(), 0);
-    assert!(rt; schedule.log().is_empty());
-    assert_eq!(rt; draw(&rt, &mut schedule, 10)?, 7);
-    assert_eq!(rt; draw(&rt, &mut schedule, 4_000_000_000)?, 236_525_527);
-    let first = Pick {
-        offered: 10,
-        chosen: 7,
-    };
-    let second = Pick {
-        offered: 4_000_000_000,
-        chosen: 236_525_527,
-    };
-    assert_eq!(rt; schedule.log(), [first, second].as_slice());
-    Ok(())
-}
-
-/// A legal name of this text.
-fn name_of(rt: &impl Abort, alloc: Global, text: &str) -> Name
-    ensures { IsLegal result }
-{
-    assert!(rt; legal_name(text.as_bytes()));
-    Name::from_text(Text::from_str(alloc, text).expect(rt, "a short text"))
+    assert!(rt; drawn(&mut schedule, 10) == Some(7));
+    assert!(rt; drawn(&mut schedule, 4_000_000_000) == Some(236_525_527));
+    assert!(rt; schedule.log().len() == 2);
 }
 
 /// Reads `in`, adds it to itself and writes the sum as `out`.
-fn doubling(rt: &impl Abort, alloc: Global) -> Result<Thin, AllocError>
+fn doubling(alloc: Global, input: Name, output: Name) -> Result<Thin, AllocError>
+    requires input { IsLegal input }
+    requires output { IsLegal output }
     ensures { IfOk result (λ script. IsFormedThin script) }
 {
-    let input = name_of(rt, alloc, "in");
-    let output = name_of(rt, alloc, "out");
     Ok(Thin::from_steps(vec![in alloc;
         ThinStep::Read {
             target: 0,
@@ -69,137 +52,124 @@ fn doubling(rt: &impl Abort, alloc: Global) -> Result<Thin, AllocError>
     ]?))
 }
 
-/// Reads `in` and the file of this name, and writes as `out` first the sum of both and then the second alone.
-fn writing_twice(rt: &impl Abort, alloc: Global, name: &str) -> Result<Thin, AllocError>
+/// Reads files of these names.
+fn reading_files(alloc: Global, first: Name, second: Name, third: Name) -> Result<Thin, AllocError>
+    requires first { IsLegal first }
+    requires second { IsLegal second }
+    requires third { IsLegal third }
     ensures { IfOk result (λ script. IsFormedThin script) }
 {
-    let input = name_of(rt, alloc, "in");
-    let other = name_of(rt, alloc, name);
-    let first = name_of(rt, alloc, "out");
-    let last = name_of(rt, alloc, "out");
     Ok(Thin::from_steps(vec![in alloc;
         ThinStep::Read {
             target: 0,
-            name: input,
+            name: first,
             columns: 1
         },
         ThinStep::Read {
             target: 1,
-            name: other,
+            name: second,
             columns: 1
         },
-        ThinStep::Union {
+        ThinStep::Read {
             target: 2,
-            left: 0,
-            right: 1
-        },
-        ThinStep::Write {
-            source: 2,
-            name: first
-        },
-        ThinStep::Write {
-            source: 1,
-            name: last
+            name: third,
+            columns: 1
         },
     ]?))
 }
 
-/// A script with no statement.
-#[tactic(auto, unfolding(mit_engine::specs::Thin::FormedFrom))]
-fn empty(alloc: Global) -> Thin
+/// Reads `in`, a file that is not there, and `bad`.
+fn reading(rt: &(impl Abort + AllocGlobal)) -> Thin
     ensures { IsFormedThin result }
 {
-    Thin::from_steps(Vec::new(alloc))
+    let first = name_of(rt, "in");
+    let second = name_of(rt, "none");
+    reading_files(rt.alloc(), first, second, name_of(rt, "bad")).expect(rt, "memory")
 }
 
-/// A run over a file `in` of the rows 2 and 1.
-fn done<S: Schedule>(
+/// How a run over a file `in` of the rows 2 and 1 and a file `bad` of a letter ends.
+fn ran<S: Schedule>(
     rt: &(impl Abort + AllocGlobal),
     script: &Thin,
     schedule: &mut S,
-    calls: u64,
-) -> Done
+) -> Result<Done, Stop<ScriptFault>>
     requires { IsFormedThin script.now }
 {
-    let mut folder = folder_of(rt, "in=2\n1\n", &[]);
+    let mut folder = folder_of(rt, "in=2\n1\n;bad=x\n", &[]);
     let mut shelf = Shelf::new(rt.alloc());
-    let Ok(done) = run_thin(rt.alloc(), script, &mut shelf, &mut folder, schedule) else {
-        panic!(rt; "the run stopped");
-    };
-    assert_eq!(rt; folder.calls(), calls);
-    done
+    run_thin(rt.alloc(), script, &mut shelf, &mut folder, schedule)
 }
 
-/// The run wrote `out` alone, if anything.
-fn expect_out(rt: &impl Abort, files: &Files, out: Option<&[u8]>) {
-    assert_eq!(rt; files.get("out"), out);
-    assert_eq!(rt; files.len(), u64::from(out.is_some()));
+/// Whether a run wrote the rows of `in` twice as `out`, and nothing else, by ten actions.
+fn doubled(done: &Done) -> bool {
+    let out = done.files.get("out");
+    out == Some(b"1\n1\n2\n2\n".as_slice())
+        && (done.files.len(), done.blocks, done.actions) == (1, 1, 10)
 }
 
-/// A run leaves `out` alone, if anything, and asks once for each file.
-fn leaves<S: Schedule>(
-    rt: &(impl Abort + AllocGlobal),
-    script: &Thin,
-    schedule: &mut S,
-    out: Option<&[u8]>,
-    actions: u64,
-)
+/// Whether a run doubled `in`, or why it stopped.
+type End = Result<bool, Stop<ScriptFault>>;
+
+fn ended<S: Schedule>(rt: &(impl Abort + AllocGlobal), script: &Thin, schedule: &mut S) -> End
     requires { IsFormedThin script.now }
 {
-    let done = done(rt, script, schedule, u64::from(out.is_some()));
-    expect_out(rt, &done.files, out);
-    assert_eq!(rt; (done.blocks, done.actions), (1, actions));
-    drop(done);
+    let done = ran(rt, script, schedule)?;
+    Ok(doubled(&done))
 }
 
-/// The same under the seeds 0 to 9, with one pick for each action.
-fn leaves_always(rt: &(impl Abort + AllocGlobal), script: &Thin, out: Option<&[u8]>, actions: u64)
+/// Runs end so under the seeds 0 to 9.
+fn expect_seeded(rt: &(impl Abort + AllocGlobal), script: &Thin, due: End)
     requires { IsFormedThin script.now }
 {
     for seed in 0..10 {
         let mut schedule = Seeded::new(rt.alloc(), seed);
-        leaves(rt, script, &mut schedule, out, actions);
-        assert_eq!(rt; schedule.log().len() as u64, actions);
+        assert!(rt; ended(rt, script, &mut schedule) == due, "seed {seed}");
     }
 }
 
-#[test]
-fn a_run_leaves_its_files_whatever_the_picks(rt: HostRuntime) -> Result<(), Fail> {
-    let alloc = rt.alloc();
-    leaves_always(&rt, &empty(alloc), None, 0);
-    let doubled = Some(b"1\n1\n2\n2\n".as_slice());
-    leaves_always(&rt, &doubling(&rt, alloc)?, doubled, 10);
-    let last = Some(b"1\n2\n".as_slice());
-    leaves_always(&rt, &writing_twice(&rt, alloc, "in")?, last, 15);
-    Ok(())
-}
-
-/// A run over one file stops so. A row is the file, the number of the call that fails, or 0, and the stop.
-fn expect_stop(rt: &(impl Abort + AllocGlobal), script: &Thin, row: &str)
+/// Runs end so where always the first, the last or the middle entry is taken, and the pick of this number finds no memory.
+fn expect_steady(rt: &(impl Abort + AllocGlobal), script: &Thin, fails: usize, due: End)
     requires { IsFormedThin script.now }
 {
-    let fails = part(row, "|", 1).parse().expect(rt, "a number");
-    let mut folder = folder_of(rt, part(row, "|", 0), &[fails]);
-    let mut shelf = Shelf::new(rt.alloc());
-    let mut schedule = Seeded::new(rt.alloc(), 0);
-    let Err(stop) = run_thin(rt.alloc(), script, &mut shelf, &mut folder, &mut schedule) else {
-        panic!(rt; "the run went to its end");
-    };
-    let found = format!(in rt.alloc(); "{stop:?}").expect(rt, "memory");
-    assert!(rt; found.as_str() == part(row, "|", 2), "{row}: {found}");
-    assert!(rt; schedule.log().len() <= 15);
+    for entry in [Entry::First, Entry::Last, Entry::Middle] {
+        let mut schedule = Steady::new(rt.alloc(), entry, fails);
+        assert!(rt; ended(rt, script, &mut schedule) == due, "pick {fails}");
+    }
+}
+
+/// A script that doubles `in`.
+fn doubling_in(rt: &(impl Abort + AllocGlobal)) -> Thin
+    ensures { IsFormedThin result }
+{
+    let input = name_of(rt, "in");
+    doubling(rt.alloc(), input, name_of(rt, "out")).expect(rt, "memory")
 }
 
 #[test]
-fn a_run_tells_why_it_stops(rt: HostRuntime) -> Result<(), Fail> {
-    let script = writing_twice(&rt, rt.alloc(), "other")?;
-    let rows = "other=1\n|0|Fault(ScriptFault { statement: 1, decisions: 0, kind: NoFile });\
-        in=1\n|0|Fault(ScriptFault { statement: 2, decisions: 0, kind: NoFile });\
-        in=1\nx\n|0|Fault(ScriptFault { statement: 1, decisions: 0, kind: BadRow(1) });\
-        in=1\n|1|Folder;\
-        in=1\n|2|Folder";
-    for row in rows.split(";") {
-        expect_stop(&rt, &script, row);
+fn the_order_of_delivery_changes_no_file(rt: HostRuntime) {
+    let script = doubling_in(&rt);
+    expect_seeded(&rt, &script, Ok(true));
+    expect_steady(&rt, &script, 0, Ok(true));
+}
+
+// A job of ten actions has no eleventh pick.
+#[test]
+fn a_pick_without_memory_ends_a_run(rt: HostRuntime) {
+    let script = doubling_in(&rt);
+    for fails in 1..11 {
+        expect_steady(&rt, &script, fails, Err(Stop::NoMemory));
     }
-    Ok(())
+    expect_steady(&rt, &script, 11, Ok(true));
+}
+
+#[test]
+fn the_first_fault_in_the_text_is_told_whatever_is_heard_first(rt: HostRuntime) {
+    let script = reading(&rt);
+    let fault = ScriptFault {
+        statement: 2,
+        decisions: 0,
+        kind: FaultKind::NoFile,
+    };
+    expect_seeded(&rt, &script, Err(Stop::Fault(fault)));
+    expect_steady(&rt, &script, 0, Err(Stop::Fault(fault)));
 }

@@ -1,17 +1,15 @@
-//! What the tests are given: files and a folder in memory.
+//! What the tests are given: files and a folder in memory, and names.
+ghost use Rattle.mit_shelf.specs.Names.{IsLegal};
+
+use mit_rows::Text;
+use mit_shelf::{Name, legal_name};
 use mit_world::{Files, MemFolder};
 use std::process::Abort;
 
-/// The part of a row that has this number, from 0, where this stands between parts; where there is none, the empty text.
-pub(crate) fn part<'a>(row: &'a str, between: &str, number: usize) -> &'a str {
-    row.split(between).nth(number).unwrap_or("")
-}
-
 /// A name and its bytes, with `=` between.
-pub(crate) fn name_and_bytes(row: &str) -> (&str, &[u8]) {
-    match row.split_once("=") {
-        Some((name, bytes)) => (name, bytes.as_bytes()),
-        None => (row, "".as_bytes()),
+fn put(rt: &impl Abort, files: &mut Files, row: &str) {
+    if let Some((name, bytes)) = row.split_once("=") {
+        files.put(name, bytes.as_bytes()).expect(rt, "memory");
     }
 }
 
@@ -19,27 +17,21 @@ pub(crate) fn name_and_bytes(row: &str) -> (&str, &[u8]) {
 pub(crate) fn files_of(rt: &(impl Abort + AllocGlobal), rows: &str) -> Files {
     let mut files = Files::new(rt.alloc());
     for row in rows.split(";") {
-        let (name, bytes) = name_and_bytes(row);
-        files.put(name, bytes).expect(rt, "memory");
+        put(rt, &mut files, row);
     }
     files
 }
 
-pub(crate) fn numbers(rt: &(impl Abort + AllocGlobal), numbers: &[u64]) -> Vec<u64> {
-    Vec::from_slice(rt.alloc(), numbers).expect(rt, "memory")
-}
-
 /// A folder of these files, which fails the calls of these numbers.
 pub(crate) fn folder_of(rt: &(impl Abort + AllocGlobal), rows: &str, fails: &[u64]) -> MemFolder {
-    MemFolder::new(files_of(rt, rows), numbers(rt, fails))
+    let fails = Vec::from_slice(rt.alloc(), fails).expect(rt, "memory");
+    MemFolder::new(files_of(rt, rows), fails)
 }
 
-/// The names of the files that the folder was asked for, each after a space.
-pub(crate) fn asked(rt: &(impl Abort + AllocGlobal), folder: &MemFolder) -> String {
-    let mut names = String::new(rt.alloc());
-    for name in folder.asked() {
-        names.push(' ').expect(rt, "memory");
-        names.push_str(name).expect(rt, "memory");
-    }
-    names
+/// A legal name of this text.
+pub(crate) fn name_of(rt: &(impl Abort + AllocGlobal), text: &str) -> Name
+    ensures { IsLegal result }
+{
+    assert!(rt; legal_name(text.as_bytes()));
+    Name::from_text(Text::from_str(rt.alloc(), text).expect(rt, "a short text"))
 }

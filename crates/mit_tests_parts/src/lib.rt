@@ -1,4 +1,5 @@
-//! Tests of what the language and a job stand on and of the job itself: rows, the world outside, the shelf, views of the path and the engine.
+//! Tests of what no command shows of what the language and a job stand on: files, the shelf, parts of files, staged bags, views of
+//! the path, and runs under any schedule.
 #![tactic(auto)]
 
 #[cfg(test)]
@@ -6,10 +7,12 @@ mod engine;
 #[cfg(test)]
 mod given;
 #[cfg(test)]
+mod host;
+#[cfg(test)]
 mod path;
 #[cfg(test)]
-mod rows;
+mod schedules;
 #[cfg(test)]
 mod shelf;
 #[cfg(test)]
-mod world;
+mod staged;

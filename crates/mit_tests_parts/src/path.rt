@@ -1,25 +1,8 @@
 //! Views, choice and fate, with values from outside.
 ghost use Rattle.std.specs.Prelude.{◌≡◌};
 
-use crate::given::part;
-use mit_path::{View, laws};
+use mit_path::{Fate, View, laws};
 use std::process::Abort;
-
-/// The numbers of a text, with blanks between.
-fn numbers_in(rt: &(impl Abort + AllocGlobal), text: &str) -> Vec<u32> {
-    let mut numbers = Vec::new(rt.alloc());
-    for word in text.split(" ") {
-        if let Ok(number) = word.parse::<u32>() {
-            numbers.push(number).expect(rt, "memory");
-        }
-    }
-    numbers
-}
-
-/// The number of this place in a text, with blanks between.
-fn number_in(rt: &impl Abort, text: &str, place: usize) -> u32 {
-    part(text, " ", place).parse::<u32>().expect(rt, "a number")
-}
 
 const BLOCKS: u32 = 8;
 
@@ -32,147 +15,151 @@ fn learn(rt: &impl Abort, view: &mut View, block: u32)
 }
 
 /// The view of these blocks.
-fn view_of(rt: &(impl Abort + AllocGlobal), path: &str) -> View {
+fn view_of(rt: &(impl Abort + AllocGlobal), path: &[u32]) -> View {
     let mut view = View::new(rt.alloc(), BLOCKS).expect(rt, "memory");
-    for block in &numbers_in(rt, path) {
+    for block in path {
         learn(rt, &mut view, *block);
     }
     view
 }
 
-/// The path of the first table.
-const SHORT: &str = "0 1 2 1 3";
+const SHORT: [u32; 5] = [0, 1, 2, 1, 3];
 
 /// A loop whose body is block 3 or block 4, and what comes after it.
-const LONG: &str = "0 1 3 1 4 1 3 1 2";
+const LONG: [u32; 9] = [0, 1, 3, 1, 4, 1, 3, 1, 2];
+
+fn block_at(view: &View, place: u64) -> Option<u32> {
+    if place < view.len() {
+        Some(view.block_at(place))
+    } else {
+        None
+    }
+}
 
 #[test]
 fn a_view_is_the_list_of_its_blocks(rt: HostRuntime) {
-    let view = view_of(&rt, LONG);
-    let path = numbers_in(&rt, LONG);
-    assert_eq!(rt; view.len(), path.len() as u64);
-    for (place, block) in path.iter().enumerate() {
-        let place = place as u64;
-        assert!(rt; place < view.len());
-        assert_eq!(rt; view.block_at(place), *block);
+    let view = view_of(&rt, &SHORT);
+    for (place, block) in SHORT.iter().enumerate() {
+        assert!(rt; block_at(&view, place as u64) == Some(*block));
+    }
+    assert!(rt; view.len() == 5);
+}
+
+/// The number of the chosen operand and the place of its bag.
+type Choice = Option<(u16, u64)>;
+
+/// The operands, the place, whether a phi or an input asks, and the answer.
+const SHORT_CHOICES: [(&[u32], u64, bool, Choice); 4] = [
+    (&[0, 2], 0, true, None),
+    (&[0, 2], 1, true, Some((0, 0))),
+    (&[0, 2], 3, true, Some((1, 2))),
+    (&[0], 4, false, Some((0, 0))),
+];
+
+const LONG_CHOICES: [(&[u32], u64, bool, Choice); 16] = [
+    (&[0, 3, 4], 0, true, None),
+    (&[0, 3, 4], 1, true, Some((0, 0))),
+    (&[0, 3, 4], 3, true, Some((1, 2))),
+    (&[0, 3, 4], 5, true, Some((2, 4))),
+    (&[0, 3, 4], 7, true, Some((1, 6))),
+    (&[0, 3, 4], 8, true, Some((1, 6))),
+    (&[4, 0, 3], 1, true, Some((1, 0))),
+    (&[4, 0, 3], 5, true, Some((0, 4))),
+    (&[4, 0, 3], 7, true, Some((2, 6))),
+    (&[3], 2, false, Some((0, 2))),
+    (&[3], 3, false, Some((0, 2))),
+    (&[3], 6, false, Some((0, 6))),
+    (&[1], 6, false, Some((0, 5))),
+    (&[4], 3, false, None),
+    (&[7], 8, false, None),
+    (&[99], 8, false, None),
+];
+
+fn chooses(view: &View, operands: &[u32], at: u64, phi: bool, due: Choice) -> bool {
+    at < view.len() && operands.len() <= 65536 && view.choose(operands, at, phi) == due
+}
+
+fn expect_choices(rt: &impl Abort, view: &View, rows: &[(&[u32], u64, bool, Choice)]) {
+    for (operands, at, phi, due) in rows {
+        assert!(rt;
+            chooses(view, operands, *at, *phi, *due),
+            "{operands:?} {at}"
+        );
     }
 }
-
-/// After bars the operands, the place, whether a phi or an input asks, and the answer: the operand's number and the place.
-fn expect_choice(rt: &(impl Abort + AllocGlobal), path: &str, row: &str) {
-    let view = view_of(rt, path);
-    let operands = numbers_in(rt, part(row, "|", 0));
-    let at = u64::from(number_in(rt, part(row, "|", 1), 0));
-    assert!(rt; at < view.len() && operands.len() <= 65536);
-    let choice = view.choose(&operands, at, part(row, "|", 2) == "phi");
-    let told = format!(in rt.alloc(); "{choice:?}").expect(rt, "memory");
-    assert!(rt; told.as_str() == part(row, "|", 3), "{row}: {told}");
-}
-
-const SHORT_CHOICES: &str = "0 2|0|phi|None;\
-    0 2|1|phi|Some((0, 0));\
-    0 2|3|phi|Some((1, 2));\
-    0|4|input|Some((0, 0))";
-
-const LONG_CHOICES: &str = "0 3 4|0|phi|None;\
-    0 3 4|1|phi|Some((0, 0));\
-    0 3 4|3|phi|Some((1, 2));\
-    0 3 4|5|phi|Some((2, 4));\
-    0 3 4|7|phi|Some((1, 6));\
-    0 3 4|8|phi|Some((1, 6));\
-    4 0 3|1|phi|Some((1, 0));\
-    4 0 3|5|phi|Some((0, 4));\
-    4 0 3|7|phi|Some((2, 6));\
-    3|2|input|Some((0, 2));\
-    3|3|input|Some((0, 2));\
-    3|6|input|Some((0, 6));\
-    1|6|input|Some((0, 5));\
-    4|3|input|None;\
-    7|8|input|None;\
-    99|8|input|None";
 
 #[test]
 fn the_last_place_is_chosen(rt: HostRuntime) {
-    for row in SHORT_CHOICES.split(";") {
-        expect_choice(&rt, SHORT, row);
-    }
-    for row in LONG_CHOICES.split(";") {
-        expect_choice(&rt, LONG, row);
-    }
+    expect_choices(&rt, &view_of(&rt, &SHORT), &SHORT_CHOICES);
+    expect_choices(&rt, &view_of(&rt, &LONG), &LONG_CHOICES);
 }
 
-/// After bars the source, the place and the target, the siblings, the kind of the edge with `end` where the path is complete, and the answer.
-fn expect_fate(rt: &(impl Abort + AllocGlobal), path: &str, row: &str) {
-    let view = view_of(rt, path);
-    let edge = part(row, "|", 0);
-    let siblings = numbers_in(rt, part(row, "|", 1));
-    let kind = part(row, "|", 2);
-    let place = u64::from(number_in(rt, edge, 1));
-    assert!(rt; place < view.len());
-    let fate = view.fate(
-        number_in(rt, edge, 0),
-        place,
-        number_in(rt, edge, 2),
-        &siblings,
-        part(kind, " ", 0) == "phi",
-        part(kind, " ", 1) == "end",
-    );
-    let told = format!(in rt.alloc(); "{fate:?}").expect(rt, "memory");
-    assert!(rt; told.as_str() == part(row, "|", 3), "{row}: {told}");
+/// The source, the place and the target, the siblings, whether the edge is a phi's, whether the path is complete, and the fate.
+type FateRow = ((u32, u64, u32), &'static [u32], bool, bool, Fate);
+
+const SHORT_FATES: [FateRow; 4] = [
+    ((2, 2, 1), &[0], true, false, Fate::Send),
+    ((1, 1, 3), &[], false, false, Fate::Drop),
+    ((3, 4, 1), &[], false, false, Fate::Undecided),
+    ((3, 4, 1), &[], false, true, Fate::Drop),
+];
+
+// Block 2 has a phi of the blocks 0, 3 and 4, as block 1 has.
+const LONG_FATES: [FateRow; 18] = [
+    ((0, 0, 1), &[3, 4], true, false, Fate::Send),
+    ((3, 2, 1), &[0, 4], true, false, Fate::Send),
+    ((3, 6, 1), &[0, 4], true, false, Fate::Send),
+    ((0, 0, 2), &[3, 4], true, false, Fate::Drop),
+    ((3, 2, 2), &[0, 4], true, false, Fate::Drop),
+    ((4, 4, 2), &[0, 3], true, false, Fate::Drop),
+    ((3, 6, 2), &[0, 4], true, false, Fate::Send),
+    ((3, 6, 5), &[0, 4], true, false, Fate::Undecided),
+    ((3, 6, 5), &[0, 4], true, true, Fate::Drop),
+    ((1, 1, 2), &[], false, false, Fate::Drop),
+    ((1, 7, 2), &[], false, false, Fate::Send),
+    ((0, 0, 2), &[], false, false, Fate::Send),
+    ((0, 0, 5), &[], false, false, Fate::Undecided),
+    ((2, 8, 1), &[], false, false, Fate::Undecided),
+    ((2, 8, 1), &[], false, true, Fate::Drop),
+    ((2, 8, 2), &[], false, false, Fate::Send),
+    ((2, 8, 2), &[], false, true, Fate::Send),
+    ((1, 1, 1), &[], false, false, Fate::Send),
+];
+
+fn decides(view: &View, row: &FateRow) -> bool {
+    let ((source, place, target), siblings, phi, complete, due) = *row;
+    place < view.len() && view.fate(source, place, target, siblings, phi, complete) == due
 }
 
-const SHORT_FATES: &str = "2 2 1|0|phi|Send;\
-    1 1 3||input|Drop;\
-    3 4 1||input|Undecided;\
-    3 4 1||input end|Drop";
-
-// Source, place and target. Block 2 has a phi of the blocks 0, 3 and 4, as block 1 has.
-const LONG_FATES: &str = "0 0 1|3 4|phi|Send;\
-    3 2 1|0 4|phi|Send;\
-    3 6 1|0 4|phi|Send;\
-    0 0 2|3 4|phi|Drop;\
-    3 2 2|0 4|phi|Drop;\
-    4 4 2|0 3|phi|Drop;\
-    3 6 2|0 4|phi|Send;\
-    3 6 5|0 4|phi|Undecided;\
-    3 6 5|0 4|phi end|Drop;\
-    1 1 2||input|Drop;\
-    1 7 2||input|Send;\
-    0 0 2||input|Send;\
-    0 0 5||input|Undecided;\
-    2 8 1||input|Undecided;\
-    2 8 1||input end|Drop;\
-    2 8 2||input|Send;\
-    2 8 2||input end|Send;\
-    1 1 1||input|Send";
+fn expect_fates(rt: &impl Abort, view: &View, rows: &[FateRow]) {
+    for row in rows {
+        assert!(rt; decides(view, row), "{row:?}");
+    }
+}
 
 #[test]
 fn a_fate_is_decided_by_what_comes_first(rt: HostRuntime) {
-    for row in SHORT_FATES.split(";") {
-        expect_fate(&rt, SHORT, row);
-    }
-    for row in LONG_FATES.split(";") {
-        expect_fate(&rt, LONG, row);
-    }
+    expect_fates(&rt, &view_of(&rt, &SHORT), &SHORT_FATES);
+    expect_fates(&rt, &view_of(&rt, &LONG), &LONG_FATES);
 }
 
-/// After bars the block and the place, and the answer.
-fn expect_next(rt: &(impl Abort + AllocGlobal), path: &str, row: &str) {
-    let view = view_of(rt, path);
-    let block = number_in(rt, part(row, "|", 0), 0);
-    let from = u64::from(number_in(rt, part(row, "|", 0), 1));
-    let next = view.next_of(block, from);
-    let told = format!(in rt.alloc(); "{next:?}").expect(rt, "memory");
-    assert!(rt; told.as_str() == part(row, "|", 1), "{row}: {told}");
-}
-
-const NEXT: &str =
-    "1 2|Some(3);2 3|None;0 0|Some(0);3 4|Some(4);3 5|None;1 4|None;7 0|None;99 0|None";
+/// Blocks and places, and the next place of the block from there.
+const NEXT: [(u32, u64, Option<u64>); 8] = [
+    (1, 2, Some(3)),
+    (2, 3, None),
+    (0, 0, Some(0)),
+    (3, 4, Some(4)),
+    (3, 5, None),
+    (1, 4, None),
+    (7, 0, None),
+    (99, 0, None),
+];
 
 #[test]
 fn the_next_place_is_at_or_after(rt: HostRuntime) {
-    for row in NEXT.split(";") {
-        expect_next(&rt, SHORT, row);
+    let view = view_of(&rt, &SHORT);
+    for (block, from, due) in NEXT {
+        assert!(rt; view.next_of(block, from) == due, "{block} {from}");
     }
 }
 

@@ -11,5 +11,4 @@ unfolding FormedFrom
 formed input output from to = (from, search rules, search rules, inl refl, (1, refl, refl, inl refl, (to, search rules, tt)))
 
 pub returns : goal.returns
-returns g c =
-    rw c.from_steps.ensures (rw c.in_ok-vec.ensures.items (search rules, formed _ _ c.name_of-input.ensures c.name_of-output.ensures))
+returns c = rw c.from_steps.ensures (rw c.in_ok-vec.ensures.items (search rules, formed _ _ c.requires.input c.requires.output))
