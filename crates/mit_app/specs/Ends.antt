@@ -1,5 +1,5 @@
 -- Devices of the proofs: nobody has to believe them. How the parts of the top call end, in the words of their private contracts.
-use Rattle.std.specs.Prelude.{◌≡◌, ⊤, ◌⊎◌, ◌<◌, ◌≤◌, ℕ, List, [], ◌∷◌, codes, string_bytes, Option, Some, Result, Ok, Err}
+use Rattle.std.specs.Prelude.{◌≡◌, ⊤, ◌⊎◌, ◌<◌, ◌≤◌, ℕ, List, [], ◌∷◌, codes, string_bytes, Option, None, Some, Result, Ok, Err}
 use Rattle.std.specs.FinMap as fin
 use Rattle.mit_world.specs.Files.{FileMap}
 use Rattle.mit_world.specs.Outside.{Held}
@@ -84,6 +84,11 @@ FindsAs name files (Err (halt.Failed why)) = ⊤
 abbrev pub Counted : List ℕ → FileMap → ℕ → Type 0
 Counted name files actions = (script : Script) × (types : List VarType) × IsFound files name (Accepted script types)
     × ((steps : List ThinStep) → thin_steps script ≡ Some steps → actions ≡ action_count steps)
+
+-- a run as a job, or step by step within a limit of decisions
+abbrev pub task_within : Option ℕ → Task
+task_within None = Run
+task_within (Some decisions) = Step decisions
 
 -- these files and this report are those of a task with an accepted script
 pub record ReportsTask (task : Task) (script : Script) (types : List VarType) (files published : FileMap) (report : List ℕ) : Type 0 where

@@ -4,26 +4,27 @@ ghost use Rattle.mit_world.specs.Outside.{AsksAtMost, Continues, Rose};
 ghost use Rattle.mit_shelf.specs.Names.{IsLegal};
 ghost use Rattle.mit_shelf.specs.Shelf.{Agrees};
 ghost use Rattle.mit_shelf.specs.Staging.{published_in};
+ghost use Rattle.mit_script.specs.Trees.{IsNumbered};
 ghost use Rattle.mit_app.specs.Answers.{Answers, Gains, TellsFiles};
 ghost use Rattle.mit_app.specs.Due.{IsCheck, IsCheckOrPlan, IsPlan, IsUsage, texts};
-ghost use Rattle.mit_app.specs.Ends.{Ends, IfOutsideFailed, IfLine, IsShowing, halt_line, halt_status};
+ghost use Rattle.mit_app.specs.Ends.{Ends, IfOutsideFailed, IfLine, IsShowing, RunsAs, halt_line, halt_status, task_within};
 ghost use Rattle.mit_app.specs.Lines.{outside_line, refusal_line};
 ghost use Rattle.mit_app.specs.Statuses.{IsUnstaged};
 ghost use Rattle.mit_app.specs.declared.ends.Outside.TheVariants as outside;
 ghost use Rattle.mit_app.specs.declared.ends.Refusal.TheVariants as refusal;
-ghost use Rattle.mit_app.specs.declared.words.Task.TheVariants as task;
 
 use crate::check::check_and_show;
 use crate::ends::{Halt, Outside, Refusal};
 use crate::lines::halted;
 use crate::plan::plan_and_show;
-use crate::publish::publish;
+use crate::publish::{Ran, publish};
 use crate::run::run;
 use crate::script::read_script;
 use crate::step::step;
 use crate::words::{Task, command_of};
-use mit_engine::{Schedule, Seeded};
+use mit_engine::Seeded;
 use mit_parse::laws::one_reading;
+use mit_script::Typed;
 use mit_shelf::Shelf;
 use mit_shelf::laws::shelves_agree_with_their_files;
 use mit_world::{Console, Folder, Outbox, OutsideStop};
@@ -122,25 +123,20 @@ fn perform<F: Folder, O: Outbox, C: Console>(
     ensures console_count { C.faults console.old ≤ C.faults console.new }
 {
     match task {
-        Task::Run => {
-            let mut schedule = Seeded::new(alloc, 0);
-            let ended = run_and_publish(alloc, name, &mut schedule, shelf, folder, outbox, console);
-            drop(schedule);
-            ended
-        }
+        Task::Run => run_and_publish(alloc, name, None, shelf, folder, outbox, console),
         Task::Step { decisions } => {
-            step_and_publish(alloc, name, decisions, shelf, folder, outbox, console)
+            run_and_publish(alloc, name, Some(decisions), shelf, folder, outbox, console)
         }
         Task::Check { print } => check_and_show(alloc, name, print, shelf, folder, console),
         Task::Plan => plan_and_show(alloc, name, shelf, folder, console),
     }
 }
 
-// Runs the script of this name under a schedule, and publishes its files.
-fn run_and_publish<S: Schedule, F: Folder, O: Outbox, C: Console>(
+// Runs the script of this name as a job, or with a limit of decisions step by step, and publishes its files.
+fn run_and_publish<F: Folder, O: Outbox, C: Console>(
     alloc: Global,
     name: &str,
-    schedule: &mut S,
+    limit: Option<u32>,
     shelf: &mut Shelf,
     folder: &mut F,
     outbox: &mut O,
@@ -148,7 +144,7 @@ fn run_and_publish<S: Schedule, F: Folder, O: Outbox, C: Console>(
 ) -> Result<(), Halt>
     requires { IsLegal name.now }
     ensures ends { (files : FileMap) → Agrees shelf.new files
-        → Ends O.held task.Run name.now files outbox.old outbox.new (C.written console.old) (C.written console.new) result }
+        → Ends O.held (task_within limit) name.now files outbox.old outbox.new (C.written console.old) (C.written console.new) result }
     ensures unpublished { OnErr result (published_in (O.held outbox.new) ≡ published_in (O.held outbox.old)) }
     ensures agrees { IfSome (F.files folder.old) (λ files. Agrees shelf.old files → Agrees shelf.new files) }
     ensures failed { IfErr result (λ halt. IfOutsideFailed halt (Rose (F.faults folder.old) (F.faults folder.new))
@@ -163,45 +159,34 @@ fn run_and_publish<S: Schedule, F: Folder, O: Outbox, C: Console>(
         Ok(typed) => typed,
         Err(halt) => return Err(halt),
     };
-    let ran = match run(alloc, &typed, schedule, shelf, folder) {
+    let ran = match run_within(alloc, limit, &typed, shelf, folder) {
         Ok(ran) => ran,
         Err(halt) => return Err(halt),
     };
     publish(&ran, outbox, console)
 }
 
-// Runs the script of this name step by step, with at most so many decisions, and publishes its files.
-fn step_and_publish<F: Folder, O: Outbox, C: Console>(
+// Runs an accepted script as a job, or with a limit of decisions step by step.
+fn run_within<F: Folder>(
     alloc: Global,
-    name: &str,
-    decisions: u32,
+    limit: Option<u32>,
+    typed: &Typed,
     shelf: &mut Shelf,
     folder: &mut F,
-    outbox: &mut O,
-    console: &mut C,
-) -> Result<(), Halt>
-    requires { IsLegal name.now }
-    ensures ends { (files : FileMap) → Agrees shelf.new files
-        → Ends O.held (task.Step decisions) name.now files outbox.old outbox.new (C.written console.old) (C.written console.new) result }
-    ensures unpublished { OnErr result (published_in (O.held outbox.new) ≡ published_in (O.held outbox.old)) }
+) -> Result<Ran, Halt>
+    requires { IsNumbered typed.now.script }
+    ensures ran { (files : FileMap) → Agrees shelf.new files
+        → RunsAs (task_within limit) typed.now.script typed.now.types files result }
+    ensures grows { (files : FileMap) → Agrees shelf.new files → Agrees shelf.old files }
     ensures agrees { IfSome (F.files folder.old) (λ files. Agrees shelf.old files → Agrees shelf.new files) }
-    ensures failed { IfErr result (λ halt. IfOutsideFailed halt (Rose (F.faults folder.old) (F.faults folder.new))
-        (Rose (O.faults outbox.old) (O.faults outbox.new)) (Rose (C.faults console.old) (C.faults console.new))) }
-    ensures continues { Continues (C.written console.old) (C.written console.new) }
+    ensures failed { IfErr result (λ halt. IfOutsideFailed halt (Rose (F.faults folder.old) (F.faults folder.new)) ⊥ ⊥) }
     ensures told { F.files folder.new ≡ F.files folder.old }
-    ensures folder_count { F.faults folder.old ≤ F.faults folder.new }
-    ensures outbox_count { O.faults outbox.old ≤ O.faults outbox.new }
-    ensures console_count { C.faults console.old ≤ C.faults console.new }
+    ensures count { F.faults folder.old ≤ F.faults folder.new }
 {
-    let typed = match read_script(alloc, name, shelf, folder) {
-        Ok(typed) => typed,
-        Err(halt) => return Err(halt),
-    };
-    let ran = match step(alloc, &typed, decisions, shelf, folder) {
-        Ok(ran) => ran,
-        Err(halt) => return Err(halt),
-    };
-    publish(&ran, outbox, console)
+    match limit {
+        None => run(alloc, typed, &mut Seeded::new(alloc, 0), shelf, folder),
+        Some(decisions) => step(alloc, typed, decisions, shelf, folder),
+    }
 }
 
 // Puts the line that tells why a call did not come to its end, and answers the status.

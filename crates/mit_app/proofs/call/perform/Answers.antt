@@ -19,7 +19,12 @@ returns-in-Plan-clause-ends g c = λ files agrees.
     (showing_ends g.O.Outbox.held Plan c.args.name.now files c.args.outbox.now (g.C.Console.written c.args.console.now)
     (g.C.Console.written c.plan_and_show.new.console) c.plan_and_show.result (c.plan_and_show.ensures.shown files agrees))
 
+pub returns-in-Run-clause-ends : goal.returns-in-Run-clause-ends
+returns-in-Run-clause-ends g c = λ files agrees.
+    subst (λ (t : Task). Ends g.O.Outbox.held t c.args.name.now files c.args.outbox.now c.run_and_publish.new.outbox (g.C.Console.written c.args.console.now)
+    (g.C.Console.written c.run_and_publish.new.console) c.run_and_publish.result) (sym c.in-Run.is) (c.run_and_publish.ensures.ends files agrees)
+
 pub returns-in-Step-clause-ends : goal.returns-in-Step-clause-ends
 returns-in-Step-clause-ends g c = λ files agrees.
-    subst (λ (t : Task). Ends g.O.Outbox.held t c.args.name.now files c.args.outbox.now c.step_and_publish.new.outbox (g.C.Console.written c.args.console.now)
-    (g.C.Console.written c.step_and_publish.new.console) c.step_and_publish.result) (sym c.in-Step.is) (c.step_and_publish.ensures.ends files agrees)
+    subst (λ (t : Task). Ends g.O.Outbox.held t c.args.name.now files c.args.outbox.now c.run_and_publish-in-Step.new.outbox (g.C.Console.written c.args.console.now)
+    (g.C.Console.written c.run_and_publish-in-Step.new.console) c.run_and_publish-in-Step.result) (sym c.in-Step.is) (c.run_and_publish-in-Step.ensures.ends files agrees)
