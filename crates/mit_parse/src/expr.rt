@@ -8,9 +8,9 @@ ghost use Rattle.mit_parse.specs.Gives.{GivesReading};
 use crate::ahead::Ahead;
 use crate::beside::beside;
 use crate::names::CapturedNames;
-use crate::operators::{binary, call_of_word, negated, ranked_operator};
+use crate::operators::{COMPARISON, binary, call_of_word, compared, negated, ranked_operator};
 use crate::stop::Stop;
-use crate::tokens::{after_next, expect_symbol, sees_word};
+use crate::tokens::{after_next, ended_by, expect_symbol, sees_word};
 use mit_expr::{Call, Expr};
 use mit_lex::{TokenKind, keyword, symbol};
 use mit_rows::Value;
@@ -19,9 +19,6 @@ use std::alloc::Global;
 
 /// The rank of `not`.
 const NEGATION: u8 = 2;
-
-/// The rank of comparisons.
-const COMPARISON: u8 = 3;
 
 /// The rank of what stands alone.
 const ALONE: u8 = 7;
@@ -56,8 +53,7 @@ fn enclosed_at<'a>(
         (spec.enclosed_at (spec.expression (number_in captured.now) depth 7) tokens.entry) }
 {
     let (inner, rest) = expression(alloc, captured, depth, ALONE, tokens)?;
-    let rest = expect_symbol(symbol::RIGHT_PAREN, rest)?;
-    Ok((inner, rest))
+    ended_by(symbol::RIGHT_PAREN, inner, rest)
 }
 
 /// The argument of a function.
@@ -156,8 +152,9 @@ fn chain_from<'a>(
         let Some(op) = ranked_operator(6 - below, &rest) else {
             return Ok((left, rest));
         };
-        let (right, after) = ranked(alloc, captured, depth, below, after_next(rest))?;
-        left = binary(alloc, op, left, right)?;
+        let operand = ranked(alloc, captured, depth, below, after_next(rest));
+        let (first, (right, after)) = beside(left, operand)?;
+        left = binary(alloc, op, first, right)?;
         rest = after;
     }
     Err(Stop::Refused(rest))
@@ -203,10 +200,7 @@ fn comparison<'a>(
     };
     let operand = ranked(alloc, captured, depth, below, after_next(rest));
     let (left, (right, rest)) = beside(left, operand)?;
-    if ranked_operator(COMPARISON, &rest).is_some() {
-        return Err(Stop::Refused(rest));
-    }
-    Ok((binary(alloc, op, left, right)?, rest))
+    compared(alloc, op, left, right, rest)
 }
 
 /// An operand, or a `not` and what it negates.

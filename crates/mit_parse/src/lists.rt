@@ -8,7 +8,7 @@ use crate::ahead::Ahead;
 use crate::expr::any_expression;
 use crate::names::CapturedNames;
 use crate::stop::Stop;
-use crate::tokens::{after_next, expect_symbol, next_column, next_type, sees_symbol};
+use crate::tokens::{after_next, ended_by, expect_symbol, next_column, next_type, sees_symbol};
 use mit_expr::Expr;
 use mit_lex::symbol;
 use mit_ops::{ColTypes, Columns, Exprs};
@@ -109,8 +109,7 @@ pub(crate) fn types_at(
 {
     let rest = expect_symbol(symbol::LEFT_PAREN, tokens)?;
     let (types, rest) = listed(alloc, &TypeReader, most, rest)?;
-    let rest = expect_symbol(symbol::RIGHT_PAREN, rest)?;
-    Ok((ColTypes::from_vec(types), rest))
+    ended_by(symbol::RIGHT_PAREN, ColTypes::from_vec(types), rest)
 }
 
 /// Columns.
@@ -137,6 +136,5 @@ pub(crate) fn exprs_at<'a>(
 {
     let rest = expect_symbol(symbol::LEFT_BRACKET, tokens)?;
     let (exprs, rest) = listed(alloc, &ExpressionReader { captured, most }, most, rest)?;
-    let rest = expect_symbol(symbol::RIGHT_BRACKET, rest)?;
-    Ok((Exprs::from_vec(exprs), rest))
+    ended_by(symbol::RIGHT_BRACKET, Exprs::from_vec(exprs), rest)
 }

@@ -3,12 +3,17 @@ ghost use Rattle.std.specs.Prelude.{◌≡◌, IfOk, if◌then◌else◌, nat_le
 ghost use Rattle.mit_script.specs.Grammar as grammar;
 ghost use Rattle.mit_script.specs.Reading as spec;
 ghost use Rattle.mit_expr.specs.declared.expr.Expr.TheVariants as expr;
+ghost use Rattle.mit_parse.specs.Gives.{GivesReading};
 
 use crate::ahead::Ahead;
+use crate::stop::Stop;
 use mit_expr::{BinOp, Call, Expr};
 use mit_lex::{TokenKind, keyword, symbol};
 use sqlite_items::Boxed;
 use std::alloc::{AllocError, Global};
+
+/// The rank of comparisons.
+pub(crate) const COMPARISON: u8 = 3;
 
 /// How strongly an operator binds.
 fn rank_of(op: BinOp) -> u8
@@ -101,6 +106,23 @@ pub(crate) fn binary(alloc: Global, op: BinOp, left: Expr, right: Expr) -> Resul
         left: Boxed::new(alloc, left)?,
         right: Boxed::new(alloc, right)?,
     })
+}
+
+/// A comparison of two operands, where no other comparison follows.
+pub(crate) fn compared<'a>(
+    alloc: Global,
+    op: BinOp,
+    left: Expr,
+    right: Expr,
+    tokens: Ahead<'a>,
+) -> Result<(Expr, Ahead<'a>), Stop<'a>>
+    ensures { GivesReading result
+        (spec.alone (spec.ranked_operator 3 tokens.entry) (expr.Bin op left right) tokens.entry) }
+{
+    if ranked_operator(COMPARISON, &tokens).is_some() {
+        return Err(Stop::Refused(tokens));
+    }
+    Ok((binary(alloc, op, left, right)?, tokens))
 }
 
 /// The number below zero of this size, where there is one.

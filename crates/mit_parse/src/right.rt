@@ -1,9 +1,10 @@
 //! The forms of operators, each from the token after its keyword on.
 ghost use Rattle.std.specs.Prelude.{◌≡◌};
-ghost use Rattle.mit_script.specs.Grammar.{is_name, number_in};
+ghost use Rattle.mit_script.specs.Grammar.{number_in};
 ghost use Rattle.mit_script.specs.Reading as spec;
 ghost use Rattle.mit_parse.specs.Forms.{ending_symbol, form_at};
 ghost use Rattle.mit_parse.specs.Gives.{GivesReading};
+ghost use Rattle.mit_parse.specs.Parts as parts;
 
 use crate::ahead::Ahead;
 use crate::beside::beside;
@@ -42,6 +43,17 @@ impl Form {
     }
 }
 
+/// What a reduction makes of this column, where the keyword is `sum`, `min` or `max`.
+fn agg_of_column(place: u8, column: u8) -> Agg
+    ensures { result ≡ parts.agg_of_column place column }
+{
+    match place {
+        keyword::SUM => Agg::Sum(column),
+        keyword::MIN => Agg::Min(column),
+        _ => Agg::Max(column),
+    }
+}
+
 /// What a reduction makes of the rows of one key.
 #[tactic(auto, unfolding(mit_script::specs::Reading::agg_at))]
 fn agg_at(tokens: Ahead<'_>) -> Result<(Agg, Ahead<'_>), Stop<'_>>
@@ -55,17 +67,9 @@ fn agg_at(tokens: Ahead<'_>) -> Result<(Agg, Ahead<'_>), Stop<'_>>
     };
     match *place {
         keyword::COUNT => Ok((Agg::Count, rest)),
-        keyword::SUM => {
+        keyword::SUM | keyword::MIN | keyword::MAX => {
             let (column, rest) = next_column(rest)?;
-            Ok((Agg::Sum(column), rest))
-        }
-        keyword::MIN => {
-            let (column, rest) = next_column(rest)?;
-            Ok((Agg::Min(column), rest))
-        }
-        keyword::MAX => {
-            let (column, rest) = next_column(rest)?;
-            Ok((Agg::Max(column), rest))
+            Ok((agg_of_column(*place, column), rest))
         }
         _ => Err(Stop::Refused(tokens)),
     }
@@ -263,11 +267,14 @@ fn empty_at(alloc: Global, most: usize, tokens: Ahead<'_>) -> Result<(OpSpec, Ah
     Ok((OpSpec::Empty { types }, rest))
 }
 
-/// Whether an expression is a single name.
-fn is_name(expr: &Expr) -> bool
-    ensures { result ≡ is_name expr.now }
+/// A scalar of this expression, or a copy where it is a single name.
+fn copy_or_scalar(expr: Expr) -> OpSpec
+    ensures { result ≡ spec.copy_or_scalar expr }
 {
-    matches!(expr, Expr::Capture(_))
+    match expr {
+        Expr::Capture(_) => OpSpec::Copy,
+        _ => OpSpec::Scalar { expr },
+    }
 }
 
 /// A scalar, or a copy where it is a single name.
@@ -281,10 +288,7 @@ fn scalar_at<'a>(
     ensures { GivesReading result (spec.scalar_at (number_in captured.now) most tokens.entry) }
 {
     let (expr, rest) = any_expression(alloc, captured, most, tokens)?;
-    if is_name(&expr) {
-        return Ok((OpSpec::Copy, rest));
-    }
-    Ok((OpSpec::Scalar { expr }, rest))
+    Ok((copy_or_scalar(expr), rest))
 }
 
 /// The form of a keyword, or an expression.

@@ -14,7 +14,7 @@ use crate::beside::beside;
 use crate::names::{VariableNames, arguments, captured_ahead, variables};
 use crate::right::{Form, form_at};
 use crate::stop::Stop;
-use crate::tokens::{after_next, expect_symbol, next_name, sees_word};
+use crate::tokens::{after_next, ended_by, expect_symbol, next_name, sees_word};
 use mit_lex::{Token, TokenKind, keyword, symbol};
 use mit_ops::OpSpec;
 use mit_script::{Args, Script, Stmt};
@@ -118,8 +118,7 @@ fn block_at<'a>(
         (spec.rest_of_block (spec.statements names.now most left) tokens.entry) }
 {
     let (body, rest) = statements(alloc, names, most, left, tokens)?;
-    let rest = expect_symbol(symbol::RIGHT_BRACE, rest)?;
-    Ok((Items::from_vec(body), rest))
+    ended_by(symbol::RIGHT_BRACE, Items::from_vec(body), rest)
 }
 
 /// What stands after the first block of an `if`.

@@ -2,8 +2,10 @@
 ghost use Rattle.std.specs.Prelude.{◌≡◌};
 ghost use Rattle.mit_script.specs.Reading as spec;
 ghost use Rattle.mit_parse.specs.Gives.{GivesAs, GivesReading};
+ghost use Rattle.mit_parse.specs.Parts.{ended_by};
 
 use crate::ahead::Ahead;
+use crate::beside::beside;
 use crate::stop::Stop;
 use mit_lex::{TokenKind, keyword};
 use mit_rows::{ColType, Text};
@@ -20,6 +22,18 @@ pub(crate) fn expect_symbol(wanted: u8, tokens: Ahead<'_>) -> Result<Ahead<'_>, 
         TokenKind::Symbol(place) if *place == wanted => Ok(rest),
         _ => Err(Stop::Refused(tokens)),
     }
+}
+
+/// What was read, where this symbol stands after it.
+pub(crate) fn ended_by<T: Drop>(
+    ending: u8,
+    first: T,
+    tokens: Ahead<'_>,
+) -> Result<(T, Ahead<'_>), Stop<'_>>
+    ensures { GivesReading result (ended_by ending first tokens.entry) }
+{
+    let (first, rest) = beside(first, expect_symbol(ending, tokens))?;
+    Ok((first, rest))
 }
 
 /// The tokens after this keyword.

@@ -2,7 +2,7 @@ use Rattle.std.proofs.Common.{◌≡◌, ◌∙◌, ◌-◌, Ok, sym, subst}
 use Rattle.std.proofs.lemmas.Result.{err_from_is_err_and}
 use Rattle.mit_script.specs.Grammar.{number_in}
 use Rattle.mit_script.specs.Reading.{after_next, chain_from, expression, ranked}
-use Rattle.mit_parse.specs.Gives.{StopsReading}
+use Rattle.mit_parse.specs.Gives.{GivesReading, StopsReading}
 use Rattle.mit_parse.proofs.Loops.{chain_ends, chain_goes_on, chain_runs_out, chain_stops}
 use Rattle.mit_parse.proofs.expr.+expression.Goals as goal
 
@@ -12,13 +12,14 @@ chain_from-returns-in_default t c =
     let operand = ranked (expression number c.args.depth) number c.args.depth c.args.below in
     chain_ends operand (6 - c.args.below) c.args.depth c.loop.counter c.loop.left c.loop.rest (chain_from operand (6 - c.args.below) c.args.depth c.args.left c.args.tokens) c.loop-test.true (sym c.ranked_operator.ensures ∙ c.in_default.is) c.loop.invariant
 
-pub chain_from-returns-in_err-right : goal.chain_from-returns-in_err-right
-chain_from-returns-in_err-right t c =
+pub chain_from-returns-in_err-first : goal.chain_from-returns-in_err-first
+chain_from-returns-in_err-first t c =
     let number = number_in c.args.captured.now in
     let operand = ranked (expression number c.args.depth) number c.args.depth c.args.below in
     let p = err_from_is_err_and c.from_residual.result c.from_residual.ensures.1 in
-    let stopped = subst (λ tokens. StopsReading c.in_err-right.field-0.0 (operand tokens)) c.after_next.ensures c.in_err-right.ensures in
-    rw (p.1, p.2) (chain_stops c.in_err-right.field-0.0 operand (6 - c.args.below) c.args.depth c.loop.counter c.loop.left c.loop.rest c.in-Some.op (chain_from operand (6 - c.args.below) c.args.depth c.args.left c.args.tokens) c.loop-test.true (sym c.ranked_operator.ensures ∙ c.in-Some.is) stopped c.loop.invariant)
+    let read = subst (λ read. GivesReading read (operand c.after_next.result)) c.in_err-first.ensures.stop c.ranked-operand.ensures in
+    let stopped = subst (λ tokens. StopsReading c.in_err-first.field-0.0 (operand tokens)) c.after_next.ensures read in
+    rw (p.1, p.2) (chain_stops c.in_err-first.field-0.0 operand (6 - c.args.below) c.args.depth c.loop.counter c.loop.left c.loop.rest c.in-Some.op (chain_from operand (6 - c.args.below) c.args.depth c.args.left c.args.tokens) c.loop-test.true (sym c.ranked_operator.ensures ∙ c.in-Some.is) stopped c.loop.invariant)
 
 pub chain_from-returns : goal.chain_from-returns
 chain_from-returns t c =
@@ -31,5 +32,6 @@ chain_from-loop-preserved t c =
     let number = number_in c.args.captured.now in
     let operand = ranked (expression number c.args.depth) number c.args.depth c.args.below in
     let total = chain_from operand (6 - c.args.below) c.args.depth c.args.left c.args.tokens in
-    let read : operand (after_next c.loop.rest) ≡ Ok (c.in_ok-right.right, c.in_ok-right.after) = subst (λ tokens. operand tokens ≡ Ok (c.in_ok-right.right, c.in_ok-right.after)) c.after_next.ensures c.in_ok-right.ensures in
-    rw c.in_ok-left.ensures (chain_goes_on operand (6 - c.args.below) c.args.depth c.loop.counter c.loop.left c.loop.rest c.in-Some.op c.in_ok-right.right c.in_ok-right.after total c.loop-test.true (sym c.ranked_operator.ensures ∙ c.in-Some.is) read c.loop.invariant)
+    let given = subst (λ read. GivesReading read (operand c.after_next.result)) c.in_ok-first.ensures.both.1 c.ranked-operand.ensures in
+    let read : operand (after_next c.loop.rest) ≡ Ok (c.in_ok-first.right, c.in_ok-first.after) = subst (λ tokens. operand tokens ≡ Ok (c.in_ok-first.right, c.in_ok-first.after)) c.after_next.ensures given in
+    rw (c.in_ok-left.ensures, c.in_ok-first.ensures.both.0) (chain_goes_on operand (6 - c.args.below) c.args.depth c.loop.counter c.loop.left c.loop.rest c.in-Some.op c.in_ok-first.right c.in_ok-first.after total c.loop-test.true (sym c.ranked_operator.ensures ∙ c.in-Some.is) read c.loop.invariant)
