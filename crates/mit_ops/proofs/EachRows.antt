@@ -1,10 +1,11 @@
 -- What one row gives, value by value and piece by piece.
-use Rattle.std.proofs.Common.{◌≡◌, ℕ, suc, cond, eqb, ℤ, pos, ◌-ℤ◌, ◌+◌, ◌+ℤ◌, ◌<◌, ◌≤◌, List, [], ◌∷◌, ◌++◌, map, length, drop, get_or, Bool, true, false, Option, Some, None, Ok, IsSome, refl, ap, sym, ◌∙◌, arith, nat_lt, append_assoc}
+use Rattle.std.proofs.Common.{◌≡◌, ℕ, suc, cond, eqb, ℤ, pos, zero, negsuc, ◌-ℤ◌, ◌+◌, ◌+ℤ◌, ◌<◌, ◌≤◌, List, [], ◌∷◌, ◌++◌, map, length, drop, take, get_or, Bool, true, false, Option, Some, None, Ok, Err, IsSome, refl, ap, sym, ◌∙◌, arith, nat_lt, append_assoc}
 use Rattle.std.specs.List.{All, filter, list_any, onto_first, slice_split}
 use Rattle.std.proofs.Math.Bool.{or-false}
-use Rattle.std.specs.Prelude.{◌≤ℤ◌, unsigned_abs}
+use Rattle.std.proofs.Math.Seq.{take-append_seam}
+use Rattle.std.specs.Prelude.{◌≤ℤ◌, unsigned_abs, Result, OnErr, IfErr}
 use Rattle.std.proofs.lemmas.Int.{ints}
-use Rattle.std.proofs.lemmas.Bool.{le-ltb}
+use Rattle.std.proofs.lemmas.Bool.{le-ltb, lt-ltb}
 use Rattle.std.proofs.lemmas.List.{append-nil, at_drop_more, drop_all, map-append}
 use Rattle.std.proofs.lemmas.List.Elements.{All-cons, filter-append}
 use Rattle.std.proofs.lemmas.List.FromFn.{map-range_with_len_more}
@@ -18,7 +19,10 @@ use Rattle.mit_ops.specs.EachRow.{given, given_all, numbers_below, numbers_from}
 use Rattle.mit_ops.specs.Results.{and_types, types_of}
 use Rattle.mit_ops.specs.Stops.{Adds, Stops}
 use Rattle.mit_ops.specs.declared.kinds.TheConstants.{MAX_RANGE}
+use Rattle.mit_ops.specs.declared.faults.FaultKind.TheVariants.{RangeTooLong}
+use Rattle.std.specs.Result.{IsErrAnd}
 use Rattle.mit_ops.specs.declared.each_row.OpStop.{OpStop}
+use Rattle.mit_ops.specs.declared.each_row.OpStop.TheVariants.{NoMemory}
 
 -- one row of values so far and of those that follow
 abbrev pub one_row : List Value → RowOf → RowsOrKind
@@ -124,3 +128,27 @@ next_number row from number next start before after l n b a =
 
 pub distance : (from to : ℤ) → from ≤ℤ to → to -ℤ from ≡ pos (unsigned_abs (to -ℤ from))
 distance from to l = omega (arith, ints)
+
+-- no numbers: where the range ends before it begins, and before the first one
+pub no_numbers : (row : RowOf) (from between : ℤ) (before : List RowOf) → between ≤ℤ pos 0 → Adds (numbers_below row from between) before before
+no_numbers row from (pos zero) before h = ([], refl, sym (append-nil before))
+no_numbers row from (pos (suc n)) before h = absurd (omega (arith, ints))
+no_numbers row from (negsuc n) before h = ([], refl, sym (append-nil before))
+
+pub too_many_numbers : (row : RowOf) (from between : ℤ) (count : ℕ) → between ≡ pos count → MAX_RANGE < count → numbers_below row from between ≡ Err RangeTooLong
+too_many_numbers row from between count b l = rw (b, lt-ltb MAX_RANGE count l) refl
+
+pub none_yet : (row : RowOf) (from : ℤ) (before : List RowOf) → before ≡ before ++ numbers_from row from (unsigned_abs (from -ℤ from))
+none_yet row from before =
+    let none : unsigned_abs (from -ℤ from) ≡ 0 = omega (arith, ints) in
+    rw none (sym (append-nil before))
+
+-- what an error leaves: the rows from before, and others behind them
+pub kept_front : {T E : Type 0} (result : Result T E) (start more before after : List RowOf) → before ≡ start ++ more → after ≡ before → OnErr result (take (length start) after ≡ start)
+kept_front (Ok value) start more before after b a = tt
+kept_front (Err error) start more before after b a = rw (a, b) (take-append_seam start more)
+
+-- out of memory is a stop of any call
+pub memory_stops : {T : Type 0} (result : Result T OpStop) (due : RowsOrKind) → IsErrAnd result (λ stop. stop ≡ NoMemory) → IfErr result (Stops due)
+memory_stops (Ok value) due is = tt
+memory_stops (Err stop) due is = rw is tt
