@@ -1,11 +1,11 @@
 -- What one row gives, value by value and piece by piece.
-use Rattle.std.proofs.Common.{◌≡◌, ℕ, suc, cond, eqb, ℤ, pos, zero, negsuc, ◌-ℤ◌, ◌+◌, ◌+ℤ◌, ◌<◌, ◌≤◌, List, [], ◌∷◌, ◌++◌, map, length, drop, take, get_or, Bool, true, false, Option, Some, None, Ok, Err, IsSome, refl, ap, sym, ◌∙◌, arith, nat_lt, append_assoc}
+use Rattle.std.proofs.Common.{◌≡◌, ℕ, suc, cond, eqb, ℤ, pos, zero, negsuc, ◌-ℤ◌, ◌+◌, ◌+ℤ◌, ◌<◌, ◌≤◌, ◌==◌, List, [], ◌∷◌, ◌++◌, map, length, drop, take, get_or, Bool, true, false, Option, Some, None, Ok, Err, IsSome, refl, ap, sym, ◌∙◌, arith, nat_lt, append_assoc}
 use Rattle.std.specs.List.{All, filter, list_any, onto_first, slice_split}
 use Rattle.std.proofs.Math.Bool.{or-false}
 use Rattle.std.proofs.Math.Seq.{take-append_seam}
 use Rattle.std.specs.Prelude.{◌≤ℤ◌, unsigned_abs, Result, OnErr, IfErr}
 use Rattle.std.proofs.lemmas.Int.{ints}
-use Rattle.std.proofs.lemmas.Bool.{le-ltb, lt-ltb}
+use Rattle.std.proofs.lemmas.Bool.{eqb-true, le-ltb, lt-ltb}
 use Rattle.std.proofs.lemmas.List.{append-nil, at_drop_more, drop_all, map-append}
 use Rattle.std.proofs.lemmas.List.Elements.{All-cons, filter-append}
 use Rattle.std.proofs.lemmas.List.FromFn.{map-range_with_len_more}
@@ -87,6 +87,14 @@ pub word_left_out : (row : RowOf) (pieces : List (List ℕ)) (piece : List ℕ) 
     → before ≡ start ++ word_rows row pieces → before ≡ start ++ word_rows row (pieces ++ piece ∷ [])
 word_left_out row pieces piece start before none b =
     rw (word_rows-push row pieces piece, rows_of_none row piece none, append-nil) b
+
+-- whether a piece is empty
+pub some_byte : (piece : List ℕ) → false ≡ (length piece == 0) → nat_lt 0 (length piece) ≡ true
+some_byte [] is = cc
+some_byte (byte ∷ bytes) is = lt-ltb 0 (length (byte ∷ bytes)) (omega arith)
+
+pub no_byte : (piece : List ℕ) → true ≡ (length piece == 0) → nat_lt 0 (length piece) ≡ false
+no_byte piece is = le-ltb 0 (length piece) (omega (arith, eqb-true (length piece) 0 (sym is)))
 
 -- no piece is longer than the text
 onto_first_short : (byte : ℕ) (parts : List (List ℕ)) (most : ℕ) → All (λ part. length part ≤ most) parts → All (λ part. length part ≤ suc most) (onto_first byte parts)
