@@ -44,6 +44,9 @@ grows_more a b first middle last before after = (
 pub within : (count most : ℕ) (old new : List Pick) → GrowsBy count old new → count ≤ most → GrowsWithin most old new
 within count most old new grows few = (count, few, grows)
 
+pub logged_none : (most : ℕ) (log : List Pick) → GrowsWithin most log log
+logged_none most log = within 0 most log log (grows_none log log refl) (omega arith)
+
 pub within_more : (count most : ℕ) (first middle last : List Pick) → GrowsBy count first middle → GrowsWithin 1 middle last → count + 1 ≤ most → GrowsWithin most first last
 within_more count most first middle last before after few =
     (count + after.0, omega (arith, after.1), grows_more count after.0 first middle last before after.2)
@@ -119,6 +122,14 @@ pub stopped_within : {steps : List ThinStep} {shelf : Kept} {job : JobState} {ac
     → Ran steps shelf job actions → verdict_of job ≡ verdict.Running → GrowsBy actions first middle → GrowsWithin 1 middle last → GrowsWithin (action_count script) first last
 stopped_within {actions = actions} script first middle last same ran is before after =
     within_more actions (action_count script) first middle last before after (omega (arith, (run_within ran is).0, ap action_count same))
+
+-- nor is that of one that ended
+pub ended_within : {steps : List ThinStep} {shelf : Kept} {job : JobState} {actions : ℕ} (script : List ThinStep) (first last : List Pick) → steps ≡ script
+    → Ran steps shelf job actions → GrowsBy actions first last → GrowsWithin (action_count script) first last
+ended_within {steps = []} {actions = actions} script first last same ran grows =
+    within actions (action_count script) first last grows (omega (arith, ran.idle refl))
+ended_within {steps = step ∷ steps} {job = job} {actions} script first last same ran grows =
+    within actions (action_count script) first last grows (omega (arith, ran.counted, all_actions (step ∷ steps) (omega arith), ap action_count same))
 
 -- the statement at fault is one of few
 pub run_fault : {steps : List ThinStep} {shelf : Kept} {job : JobState} {actions at : ℕ} {kind : FaultKind} → Ran steps shelf job actions

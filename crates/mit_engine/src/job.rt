@@ -40,7 +40,7 @@ impl Model for Job {
 }
 
 /// One action of the job.
-#[derive(Clone, Copy, Debug, PartialEq, Eq)]
+#[derive(Clone, Copy)]
 pub(crate) enum Action {
     /// The worker learns the block that comes next on the path.
     Learn,
@@ -53,7 +53,7 @@ pub(crate) enum Action {
 }
 
 /// How far the job has come.
-#[derive(Clone, Copy, Debug, PartialEq, Eq)]
+#[derive(Clone, Copy)]
 pub(crate) enum Verdict {
     /// It goes on.
     Running,

@@ -15,7 +15,7 @@ use mit_world::Files;
 use std::alloc::{AllocError, Global};
 
 /// What an operator reports of its poll.
-#[derive(Clone, Copy, Debug, PartialEq, Eq)]
+#[derive(Clone, Copy)]
 pub(crate) enum Outcome {
     /// Its bag is made.
     Done,
