@@ -1,4 +1,5 @@
 pub mod StmtTexts
+pub mod ListedTexts
 pub mod Heads
 pub mod Readers
 pub mod ExprFacts
