@@ -1,5 +1,6 @@
 pub mod StmtTexts
 pub mod ListedTexts
+pub mod ExprTexts
 pub mod Heads
 pub mod Readers
 pub mod ExprFacts
