@@ -53,9 +53,9 @@ bin_added names captured expr left right left_arg right_arg op rank before_rank 
     let other = ranked_tokens names captured right (right_rank op) in
     let closed = closing (nat_lt (rank_of op) rank) in
     let tokens : ranked_tokens names captured expr rank ≡ opened ++ ((one ++ ((operator_token op ∷ []) ++ other)) ++ closed) =
-        ap (λ e. ranked_tokens names captured e rank) (is ∙ sym (rolls-Bin op left right))
-        ∙ ap (λ (f : ℕ → Kinds). f rank) (fold-roll-Expr (ℕ → Kinds) (expr_step names captured) (layer.Bin op left right))
-        ∙ append_assoc opened (one ++ ((operator_token op ∷ []) ++ other)) closed in
+    ap (λ e. ranked_tokens names captured e rank) (is ∙ sym (rolls-Bin op left right))
+    ∙ ap (λ (f : ℕ → Kinds). f rank) (fold-roll-Expr (ℕ → Kinds) (expr_step names captured) (layer.Bin op left right))
+    ∙ append_assoc opened (one ++ ((operator_token op ∷ []) ++ other)) closed in
     added_five start first second third fourth last (spaced opened) (spaced one) (spaced (operator_token op ∷ [])) (spaced other) (spaced closed)
     (p ∙ ap (λ k. start ++ spaced (opening (nat_lt k rank))) before_is)
     (q ∙ ap (λ e. first ++ spaced (ranked_tokens names captured e left_least)) left_is ∙ ap (λ k. first ++ spaced (ranked_tokens names captured left k)) left_least_is)
@@ -76,9 +76,9 @@ not_added names captured expr operand arg rank start first second third last is 
     let one = ranked_tokens names captured operand 2 in
     let closed = closing (nat_lt 2 rank) in
     let tokens : ranked_tokens names captured expr rank ≡ opened ++ ((Keyword word.NOT ∷ []) ++ (one ++ closed)) =
-        ap (λ e. ranked_tokens names captured e rank) (is ∙ sym (rolls-Not operand))
-        ∙ ap (λ (f : ℕ → Kinds). f rank) (fold-roll-Expr (ℕ → Kinds) (expr_step names captured) (layer.Not operand))
-        ∙ append_assoc opened ((Keyword word.NOT ∷ []) ++ one) closed in
+    ap (λ e. ranked_tokens names captured e rank) (is ∙ sym (rolls-Not operand))
+    ∙ ap (λ (f : ℕ → Kinds). f rank) (fold-roll-Expr (ℕ → Kinds) (expr_step names captured) (layer.Not operand))
+    ∙ append_assoc opened ((Keyword word.NOT ∷ []) ++ one) closed in
     added_four start first second third last (spaced opened) (spaced (Keyword word.NOT ∷ [])) (spaced one) (spaced closed)
     p q (r ∙ ap (λ e. second ++ spaced (ranked_tokens names captured e 2)) arg_is) s
     ∙ ap (λ text. start ++ text) (sym (ap spaced tokens ∙ spaced_four opened (Keyword word.NOT ∷ []) one closed))
@@ -97,8 +97,8 @@ call_added names captured expr operand arg call rank start first second third la
     let one = ranked_tokens names captured operand 0 in
     let right = Symbol symbol.RIGHT_PAREN ∷ [] in
     let tokens : ranked_tokens names captured expr rank ≡ named ++ (left ++ (one ++ right)) =
-        ap (λ e. ranked_tokens names captured e rank) (is ∙ sym (rolls-Call call operand))
-        ∙ ap (λ (f : ℕ → Kinds). f rank) (fold-roll-Expr (ℕ → Kinds) (expr_step names captured) (layer.Call call operand)) in
+    ap (λ e. ranked_tokens names captured e rank) (is ∙ sym (rolls-Call call operand))
+    ∙ ap (λ (f : ℕ → Kinds). f rank) (fold-roll-Expr (ℕ → Kinds) (expr_step names captured) (layer.Call call operand)) in
     added_four start first second third last (spaced named) (spaced left) (spaced one) (spaced right)
     p q (r ∙ ap (λ e. second ++ spaced (ranked_tokens names captured e 0)) arg_is) s
     ∙ ap (λ text. start ++ text) (sym (ap spaced tokens ∙ spaced_four named left one right))

@@ -15,10 +15,10 @@ listed_more {X} {K} piece write between initial before middle after more at item
     let f = λ (x : X). between ++ piece x in
     let front = flat_map f (take at more) in
     let longer : flat_map f (take (at + 1) more) ≡ front ++ (between ++ piece item) =
-        ap (λ xs. flat_map f xs) (take_more more at d lt ∙ ap (λ x. take at more ++ x ∷ []) (sym is)) ∙ sym (flat_map_more f [] (take at more) item) in
+    ap (λ xs. flat_map f xs) (take_more more at d lt ∙ ap (λ x. take at more ++ x ∷ []) (sym is)) ∙ sym (flat_map_more f [] (take at more) item) in
     let written : flat_map write (flat_map f (take (at + 1) more)) ≡ flat_map write front ++ (flat_map write between ++ flat_map write (piece item)) =
-        ap (λ kinds. flat_map write kinds) longer ∙ flat_map-append write front (between ++ piece item)
-        ∙ ap (λ text. flat_map write front ++ text) (flat_map-append write between (piece item)) in
+    ap (λ kinds. flat_map write kinds) longer ∙ flat_map-append write front (between ++ piece item)
+    ∙ ap (λ text. flat_map write front ++ text) (flat_map-append write between (piece item)) in
     third ∙ ap (λ text. text ++ flat_map write (piece item)) (second ∙ ap (λ text. text ++ flat_map write between) first)
     ∙ append_assoc (initial ++ flat_map write front) (flat_map write between) (flat_map write (piece item))
     ∙ append_assoc initial (flat_map write front) (flat_map write between ++ flat_map write (piece item))
@@ -34,7 +34,7 @@ pub listed_all : {X K : Type 0} (piece : X → List K) (write : K → List ℕ) 
 listed_all piece write between initial first text [] at item d some is all one others = absurd (omega arith)
 listed_all piece write between initial first text (x ∷ xs) at item d some is all one others =
     let rest : take at (take (length (x ∷ xs) - 1) xs) ≡ xs =
-        take_all at (take (length (x ∷ xs) - 1) xs) all ∙ take_all (length (x ∷ xs) - 1) xs (omega arith) in
+    take_all at (take (length (x ∷ xs) - 1) xs) all ∙ take_all (length (x ∷ xs) - 1) xs (omega arith) in
     others ∙ ap (λ ys. first ++ flat_map write (flat_map (λ y. between ++ piece y) ys)) rest
     ∙ ap (λ start. start ++ flat_map write (flat_map (λ y. between ++ piece y) xs)) (one ∙ ap (λ y. initial ++ flat_map write (piece y)) is)
     ∙ append_assoc initial (flat_map write (piece x)) (flat_map write (flat_map (λ y. between ++ piece y) xs))
