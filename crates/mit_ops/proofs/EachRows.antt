@@ -2,7 +2,7 @@
 use Rattle.std.proofs.Common.{◌≡◌, ℕ, suc, cond, eqb, ℤ, pos, zero, negsuc, ◌-ℤ◌, ◌+◌, ◌+ℤ◌, ◌<◌, ◌≤◌, ◌==◌, List, [], ◌∷◌, ◌++◌, map, length, drop, take, get_or, Bool, true, false, Option, Some, None, Ok, Err, IsSome, refl, ap, sym, ◌∙◌, arith, nat_lt, append_assoc}
 use Rattle.std.specs.List.{All, filter, list_any, onto_first, slice_split}
 use Rattle.std.proofs.Math.Bool.{or-false}
-use Rattle.std.proofs.Math.Seq.{take-append_seam}
+use Rattle.std.proofs.Math.Seq.{take-append_seam, take-length}
 use Rattle.std.specs.Prelude.{◌≤ℤ◌, unsigned_abs, Result, OnErr, IfErr}
 use Rattle.std.proofs.lemmas.Int.{ints}
 use Rattle.std.proofs.lemmas.Bool.{eqb-true, le-ltb, lt-ltb}
@@ -150,6 +150,14 @@ pub none_yet : (row : RowOf) (from : ℤ) (before : List RowOf) → before ≡ b
 none_yet row from before =
     let none : unsigned_abs (from -ℤ from) ≡ 0 = omega (arith, ints) in
     rw none (sym (append-nil before))
+
+-- what holds in any case holds at an error, as that rows stay where none is added
+pub kept : {T E P : Type 0} (result : Result T E) → P → OnErr result P
+kept (Ok value) holds = tt
+kept (Err error) holds = holds
+
+pub none_added : {T E : Type 0} (result : Result T E) (rows : List RowOf) → OnErr result (take (length rows) rows ≡ rows)
+none_added result rows = kept result (take-length rows)
 
 -- what an error leaves: the rows from before, and others behind them
 pub kept_front : {T E : Type 0} (result : Result T E) (start more before after : List RowOf) → before ≡ start ++ more → after ≡ before → OnErr result (take (length start) after ≡ start)
