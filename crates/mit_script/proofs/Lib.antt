@@ -1,6 +1,7 @@
 pub mod StmtTexts
 pub mod ListedTexts
 pub mod ExprTexts
+pub mod LineTexts
 pub mod Heads
 pub mod Readers
 pub mod ExprFacts
