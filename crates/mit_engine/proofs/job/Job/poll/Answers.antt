@@ -114,7 +114,7 @@ pub returns-in_err-inputs-clause-count : goal.returns-in_err-inputs-clause-count
 returns-in_err-inputs-clause-count g c = omega arith
 
 pub whole-requires : goal.whole-requires
-whole-requires g c = 
+whole-requires g c =
     let within : c.args.at < length c.self.inside.operators.items = omega (arith, ap (λ (job : JobState). length job.operators) c.self.view_is, c.requires.within) in
     ready_here c.args.step.now c.self.view_is within c.index_mut.ensures.value c.in_ok-inputs.ensures.fed c.requires.ready
 
