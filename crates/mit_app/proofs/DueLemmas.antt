@@ -3,22 +3,23 @@ use Rattle.std.proofs.Common.{◌≡◌, ◌∙◌, ℕ, List, [], ◌∷◌, ap
 use Rattle.std.specs.Prelude.{◌⊎◌, Bool, true, false, codes, Option, Some, None, Result, Ok, Err}
 use Rattle.std.specs.FinMap as fin
 use Rattle.mit_rows.specs.Integers.{magnitude}
-use Rattle.mit_world.specs.Files.{FileMap}
+use Rattle.mit_files.specs.Files.{FileMap}
 use Rattle.mit_world.specs.Outside.{AsksAtMost}
 use Rattle.mit_ops.specs.declared.types.VarType.{VarType}
 use Rattle.mit_script.specs.Accepted.{checked}
 use Rattle.mit_script.specs.declared.tree.Script.{Script}
 use Rattle.mit_script.specs.declared.typed.CheckCode.{CheckCode}
-use Rattle.mit_parse.specs.Places.{IsRefusedAt}
 use Rattle.mit_script.specs.Grammar.{IsSpelled}
+use Rattle.mit_parse.specs.Places.{IsRefusedAt}
 use Rattle.mit_engine.specs.Thin.{action_count}
 use Rattle.mit_engine.specs.declared.thin.ThinStep.{ThinStep}
-use Rattle.mit_app.specs.Due.{Accepted, AreActions, AreDecisions, AreWordsFor, Due, DueFor, Found, IsCheckOrPlan, IsCommand, IsFound, IsFoundIn, IsUsage, Misspelled, Missing, Rejected, RunsIn, Verdict, verdict_for}
+use Rattle.mit_words.specs.Words.{AreDecisions, AreWordsFor, IsCheckOrPlan, IsCommand, IsUsage}
+use Rattle.mit_words.specs.declared.words.Task.{Task}
+use Rattle.mit_words.specs.declared.words.Task.TheVariants.{Run, Step, Check, Plan}
+use Rattle.mit_words.specs.declared.words.TheConstants.{MAX_DECISIONS}
+use Rattle.mit_thin.specs.ThinScript.{thin_steps}
+use Rattle.mit_app.specs.Due.{Accepted, AreActions, Due, DueFor, Found, IsFound, IsFoundIn, Misspelled, Missing, Rejected, RunsIn, Verdict, verdict_for}
 use Rattle.mit_app.specs.Ends.{Counted, IsShowing}
-use Rattle.mit_app.specs.ThinScript.{thin_steps}
-use Rattle.mit_app.specs.declared.words.Task.{Task}
-use Rattle.mit_app.specs.declared.words.Task.TheVariants.{Run, Step, Check, Plan}
-use Rattle.mit_app.specs.declared.words.TheConstants.{MAX_DECISIONS}
 
 -- a text spells one script, or is refused at one place
 pub record IsRead : Type 0 where

@@ -2,12 +2,14 @@
 use Rattle.std.proofs.Common.{append_assoc, ◌≡◌, ◌≢◌, ◌∙◌, ◌++◌, ℕ, List, [], ap, sym, subst, refl, arith, inl, inr}
 use Rattle.std.specs.Prelude.{◌⊎◌, Option, Some, None, IfSome, Err, option_map}
 use Rattle.std.specs.FinMap as fin
-use Rattle.mit_world.specs.Files.{FileMap}
+use Rattle.mit_files.specs.Files.{FileMap}
 use Rattle.mit_world.specs.Outside.{Continues, Held}
 use Rattle.mit_shelf.specs.Shelf.{Agrees, Kept, kept_files}
 use Rattle.mit_shelf.specs.Staging.{stages_all}
+use Rattle.mit_words.specs.Words.{IsCommand, IsUsage}
+use Rattle.mit_words.specs.declared.words.Task.{Task}
 use Rattle.mit_app.specs.Answers.{Answers, Gains, Leaves, Publishing, Stages, TellsFiles}
-use Rattle.mit_app.specs.Due.{DueFor, IsCommand, IsUsage, Publishes, Refused, Shows, Verdict, console_text}
+use Rattle.mit_app.specs.Due.{DueFor, Publishes, Refused, Shows, Verdict, console_text}
 use Rattle.mit_app.specs.Ends.{Ends, EndsStaging, EndsWell, IfLine, StagesFront, StopsStaging, halt_line, halt_status}
 use Rattle.mit_app.specs.Lines.{outside_line, refusal_line}
 use Rattle.mit_app.specs.Statuses.{IsOutside, IsUnstaged, refusal_status}
@@ -17,7 +19,6 @@ use Rattle.mit_app.specs.declared.ends.Outside.{Outside}
 use Rattle.mit_app.specs.declared.ends.Outside.TheVariants as outside
 use Rattle.mit_app.specs.declared.ends.Refusal.{Refusal}
 use Rattle.mit_app.specs.declared.ends.Refusal.TheVariants as refusal
-use Rattle.mit_app.specs.declared.words.Task.{Task}
 use Rattle.mit_app.proofs.DueLemmas.{IsRead, runs_in, some_due, some_runs_in, usage_runs_in}
 
 -- ---- the files over which a call answers

@@ -3,43 +3,43 @@ use Rattle.std.proofs.Common.{◌≡◌, ◌∙◌, ◌++◌, ℕ, List, ap, sym
 use Rattle.std.specs.Prelude.{◌⊎◌, Bool, true, false, if◌then◌else◌, Option, Some, None, Result, IfErr, IfSome, Ok, Err, option_and_then, option_map, slice_get, string_bytes}
 use Rattle.std.proofs.lemmas.List.{take_all}
 use Rattle.std.specs.FinMap as fin
-use Rattle.mit_world.specs.Files.{FileMap}
+use Rattle.mit_files.specs.Files.{FileMap}
+use Rattle.mit_csv.specs.Printed.{published}
 use Rattle.mit_world.specs.Outside.{Held}
+use Rattle.mit_shelf.specs.Shelf.{Agrees, Kept, bytes_at, kept}
+use Rattle.mit_shelf.specs.Staging.{stages_all}
+use Rattle.mit_shelf.specs.declared.stop.Stop.TheVariants as stop
+use Rattle.mit_ops.specs.Endings.{Ending, finished, stopped}
+use Rattle.mit_ops.specs.declared.faults.ScriptFault.{ScriptFault}
+use Rattle.mit_ops.specs.declared.types.VarType.{VarType}
+use Rattle.mit_script.specs.Execution as all
+use Rattle.mit_script.specs.declared.tree.Script.{Script}
+use Rattle.mit_script.specs.declared.typed.Typed.{Typed}
+use Rattle.mit_step.specs.Stepping.{EndsAs}
+use Rattle.mit_step.specs.declared.step.Stepped.{Stepped}
+use Rattle.mit_plan.specs.Printed.{plan_text}
+use Rattle.mit_ssa.specs.PlanFor.{plan_for}
 use Rattle.mit_engine.specs.Job.{AnswersEnding}
 use Rattle.mit_engine.specs.Thin as thin
 use Rattle.mit_engine.specs.Thin.{action_count}
 use Rattle.mit_engine.specs.declared.thin.Done.{Done}
 use Rattle.mit_engine.specs.declared.thin.ThinStep.{ThinStep}
-use Rattle.mit_ops.specs.Endings.{Ending, finished, stopped}
-use Rattle.mit_ops.specs.declared.faults.ScriptFault.{ScriptFault}
-use Rattle.mit_ops.specs.declared.types.VarType.{VarType}
-use Rattle.mit_plan.specs.Printed.{plan_text}
-use Rattle.mit_script.specs.Execution as all
-use Rattle.mit_script.specs.declared.tree.Script.{Script}
-use Rattle.mit_script.specs.declared.typed.Typed.{Typed}
-use Rattle.mit_shelf.specs.Printed.{published}
-use Rattle.mit_ssa.specs.PlanFor.{plan_for}
-use Rattle.mit_shelf.specs.Shelf.{Agrees, Kept, bytes_at, kept}
-use Rattle.mit_shelf.specs.Staging.{stages_all}
-use Rattle.mit_shelf.specs.declared.stop.Stop.TheVariants as stop
-use Rattle.mit_step.specs.Stepping.{EndsAs}
-use Rattle.mit_step.specs.declared.step.Stepped.{Stepped}
+use Rattle.mit_words.specs.declared.words.Task.{Task}
+use Rattle.mit_words.specs.declared.words.Task.TheVariants.{Run, Step, Check, Plan}
+use Rattle.mit_words.specs.declared.words.TheConstants.{DECISIONS}
+use Rattle.mit_thin.specs.ThinScript.{thin_steps}
+use Rattle.mit_thin.specs.ThinEndings.{all_of_thin}
 use Rattle.mit_app.specs.Answers.{Gains, Stages}
 use Rattle.mit_app.specs.Due.{Accepted, Blocks, Decisions, Found, IsFound, IsFoundIn, Misspelled, Missing, Publishes, Refused, Rejected, Shows, Tally, ending_verdict, is_too_large, run_verdict, task_verdict, verdict_for}
 use Rattle.mit_app.specs.Ends.{Ends, EndsStaging, FindsAs, IfOutsideFailed, PublishesAs, PutsAs, FindsIn, ReportsTask, RunsAs, ShowsAs, ShowsText, StagesFront, StopsStaging}
 use Rattle.mit_app.specs.Lines.{report_line, step_line}
-use Rattle.mit_app.specs.ThinScript.{thin_steps}
 use Rattle.mit_app.specs.declared.ends.Halt.{Halt}
 use Rattle.mit_app.specs.declared.ends.Halt.TheVariants as halt
 use Rattle.mit_app.specs.declared.ends.Outside.TheVariants as outside
 use Rattle.mit_app.specs.declared.ends.Refusal.TheVariants as refusal
 use Rattle.mit_app.specs.declared.publish.Ran.{Ran}
-use Rattle.mit_app.specs.declared.words.Task.{Task}
-use Rattle.mit_app.specs.declared.words.Task.TheVariants.{Run, Step, Check, Plan}
-use Rattle.mit_app.specs.declared.words.TheConstants.{DECISIONS}
 use Rattle.mit_app.proofs.DueLemmas.{any_actions, counted_at}
 use Rattle.mit_app.proofs.EndLemmas.{HaltsWith}
-use Rattle.mit_app.proofs.ThinMeans.{all_of_thin}
 
 -- ---- reading
 

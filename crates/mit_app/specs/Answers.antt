@@ -1,7 +1,7 @@
 -- What a call answers and leaves.
 use Rattle.std.specs.Prelude.{◌≡◌, ◌≢◌, ◌⊎◌, ◌<◌, ◌≤◌, ℕ, List, ◌++◌, take, Option, Some, IfSome, option_map}
 use Rattle.std.specs.FinMap as fin
-use Rattle.mit_world.specs.Files.{FileMap}
+use Rattle.mit_files.specs.Files.{FileMap}
 use Rattle.mit_world.specs.Outside.{Held, publishes}
 use Rattle.mit_shelf.specs.Staging.{stages_all}
 use Rattle.mit_app.specs.Due.{Due, Publishes, Refused, RunsIn, Shows, Verdict, status_of, console_text}

@@ -1,36 +1,25 @@
 -- Devices of the proofs: nobody has to believe them. How the parts of the top call end, in the words of their private contracts.
-use Rattle.std.specs.Prelude.{◌≡◌, ⊤, ◌⊎◌, ◌<◌, ◌≤◌, ℕ, List, [], ◌∷◌, codes, string_bytes, Option, None, Some, Result, Ok, Err}
+use Rattle.std.specs.Prelude.{◌≡◌, ⊤, ◌⊎◌, ◌<◌, ◌≤◌, ℕ, List, string_bytes, Option, None, Some, Result, Ok, Err}
 use Rattle.std.specs.FinMap as fin
-use Rattle.mit_world.specs.Files.{FileMap}
+use Rattle.mit_files.specs.Files.{FileMap}
 use Rattle.mit_world.specs.Outside.{Held}
-use Rattle.mit_engine.specs.Thin.{action_count}
-use Rattle.mit_engine.specs.declared.thin.ThinStep.{ThinStep}
-use Rattle.mit_shelf.specs.Names.{IsLegal}
 use Rattle.mit_ops.specs.declared.types.VarType.{VarType}
-use Rattle.mit_plan.specs.Plans.{PlanOf}
 use Rattle.mit_script.specs.declared.tree.Script.{Script}
 use Rattle.mit_script.specs.declared.typed.Typed.{Typed}
+use Rattle.mit_plan.specs.Plans.{PlanOf}
+use Rattle.mit_engine.specs.Thin.{action_count}
+use Rattle.mit_engine.specs.declared.thin.ThinStep.{ThinStep}
+use Rattle.mit_words.specs.declared.words.Task.{Task}
+use Rattle.mit_words.specs.declared.words.Task.TheVariants.{Run, Step, Check, Plan}
+use Rattle.mit_thin.specs.ThinScript.{thin_steps}
 use Rattle.mit_app.specs.Answers.{Gains, Leaves, PublishesAll, Stages}
-use Rattle.mit_app.specs.Due.{Accepted, AreDecisions, DueFor, Found, IsFound, IsFoundIn, Publishes, Refused, Shows, Tally, Verdict, status_of, plan_verdict, task_verdict, console_text, verdict_for}
+use Rattle.mit_app.specs.Due.{Accepted, DueFor, Found, IsFound, IsFoundIn, Publishes, Refused, Shows, Tally, Verdict, status_of, plan_verdict, task_verdict, console_text, verdict_for}
 use Rattle.mit_app.specs.Lines.{outside_line, refusal_line}
 use Rattle.mit_app.specs.Statuses.{outside_status, refusal_status}
-use Rattle.mit_app.specs.ThinScript.{thin_steps}
 use Rattle.mit_app.specs.declared.ends.Halt.{Halt}
 use Rattle.mit_app.specs.declared.ends.Halt.TheVariants as halt
 use Rattle.mit_app.specs.declared.ends.Outside.TheVariants as outside
 use Rattle.mit_app.specs.declared.publish.Ran.{Ran}
-use Rattle.mit_app.specs.declared.words.Task.{Task}
-use Rattle.mit_app.specs.declared.words.Task.TheVariants.{Run, Step, Check, Plan}
-
--- ---- words
-
--- the words of a run step by step, without and with a number of decisions
-abbrev pub IsStepped : List (List ℕ) → List ℕ → Type 0
-IsStepped words script = (words ≡ codes "step" ∷ script ∷ []) × IsLegal script
-
-abbrev pub IsSteppedWithin : List (List ℕ) → ℕ → List ℕ → Type 0
-IsSteppedWithin words decisions script =
-    (number : List ℕ) × (words ≡ codes "step" ∷ script ∷ codes "--decisions" ∷ number ∷ []) × AreDecisions number decisions × IsLegal script
 
 -- ---- statuses, lines and causes
 

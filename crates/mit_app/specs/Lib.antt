@@ -1,4 +1,3 @@
-pub mod ThinScript
 pub mod Lines
 pub mod Statuses
 pub mod Due

@@ -1,20 +1,21 @@
 //! The command `check`.
 ghost use Rattle.std.specs.Prelude.{◌≡◌, ◌≤◌, ◌++◌, [], if◌then◌else◌, IfErr, IfOk, IfSome};
-ghost use Rattle.mit_world.specs.Files.{FileMap};
+ghost use Rattle.mit_files.specs.Files.{FileMap};
+ghost use Rattle.mit_files.specs.Names.{IsLegal};
 ghost use Rattle.mit_world.specs.Outside.{AsksAtMost, Continues, Rose};
-ghost use Rattle.mit_shelf.specs.Names.{IsLegal};
 ghost use Rattle.mit_shelf.specs.Shelf.{Agrees};
-ghost use Rattle.mit_script.specs.Printed.{printed};
 ghost use Rattle.mit_script.specs.Trees.{IsFormed, statements_of};
+ghost use Rattle.mit_print.specs.Printed.{printed};
+ghost use Rattle.mit_words.specs.declared.words.Task.TheVariants as task;
 ghost use Rattle.mit_app.specs.Ends.{IfOutsideFailed, ShowsAs};
 ghost use Rattle.mit_app.specs.Lines.{accepted_line};
-ghost use Rattle.mit_app.specs.declared.words.Task.TheVariants as task;
 
 use crate::ends::{Halt, Outside};
 use crate::lines::acceptance;
 use crate::script::read_script;
 use crate::show::show;
-use mit_script::{Script, print, statements};
+use mit_print::print;
+use mit_script::{Script, statements};
 use mit_shelf::Shelf;
 use mit_world::{Console, Folder};
 use std::alloc::{AllocError, Global};

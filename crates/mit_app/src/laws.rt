@@ -1,10 +1,11 @@
 //! Laws of the definitions on which the top call stands. Each is the contract of a function that does nothing.
 ghost use Rattle.std.specs.Prelude.{◌≡◌, ◌↔◌, ℕ, List, true};
-ghost use Rattle.mit_world.specs.Files.{FileMap};
+ghost use Rattle.mit_files.specs.Files.{FileMap};
 ghost use Rattle.mit_plan.specs.Plans.{PlanOf};
 ghost use Rattle.mit_ssa.specs.PlanFor.{IsLarge};
-ghost use Rattle.mit_app.specs.Due.{Due, IsCommand, Verdict, is_too_large};
-ghost use Rattle.mit_app.specs.declared.words.Task.{Task};
+ghost use Rattle.mit_words.specs.Words.{IsCommand};
+ghost use Rattle.mit_words.specs.declared.words.Task.{Task};
+ghost use Rattle.mit_app.specs.Due.{Due, Verdict, is_too_large};
 
 use mit_parse::laws::one_reading;
 

@@ -12,7 +12,5 @@ mod run;
 mod script;
 mod show;
 mod step;
-mod thin;
-mod words;
 
 pub use call::mitos;

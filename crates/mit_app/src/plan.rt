@@ -1,15 +1,15 @@
 //! The command `plan`.
 ghost use Rattle.std.specs.Prelude.{◌≡◌, ◌<◌, ◌≤◌, ℕ, IfErr, IfOk, IfSome};
-ghost use Rattle.mit_world.specs.Files.{FileMap};
+ghost use Rattle.mit_files.specs.Files.{FileMap};
+ghost use Rattle.mit_files.specs.Names.{IsLegal};
 ghost use Rattle.mit_world.specs.Outside.{AsksAtMost, Continues, Rose};
-ghost use Rattle.mit_shelf.specs.Names.{IsLegal};
 ghost use Rattle.mit_shelf.specs.Shelf.{Agrees};
-ghost use Rattle.mit_plan.specs.Meant.{meant};
 ghost use Rattle.mit_script.specs.Execution.{exec};
+ghost use Rattle.mit_plan.specs.Meant.{meant};
 ghost use Rattle.mit_ssa.specs.PlanFor.{plan_for};
+ghost use Rattle.mit_words.specs.declared.words.Task.TheVariants as task;
 ghost use Rattle.mit_app.specs.Due.{Shows, plan_verdict};
 ghost use Rattle.mit_app.specs.Ends.{IfOutsideFailed, PlanHalts, ShowsAs};
-ghost use Rattle.mit_app.specs.declared.words.Task.TheVariants as task;
 
 use crate::ends::{Halt, Outside, Refusal};
 use crate::script::read_script;

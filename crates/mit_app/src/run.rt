@@ -1,22 +1,22 @@
 //! Running an accepted script as a job.
 ghost use Rattle.std.specs.Prelude.{◌≡◌, ◌≤◌, IfErr, IfOk, IfSome, string_bytes};
 ghost use Rattle.std.specs.FinMap as fin;
-ghost use Rattle.mit_world.specs.Files.{FileMap};
+ghost use Rattle.mit_files.specs.Files.{FileMap};
 ghost use Rattle.mit_world.specs.Outside.{Rose};
 ghost use Rattle.mit_shelf.specs.Shelf.{Agrees};
 ghost use Rattle.mit_script.specs.Trees.{IsNumbered};
+ghost use Rattle.mit_words.specs.declared.words.Task.TheVariants as task;
 ghost use Rattle.mit_app.specs.Ends.{IfOutsideFailed, RunsAs};
 ghost use Rattle.mit_app.specs.Lines.{report_line};
-ghost use Rattle.mit_app.specs.declared.words.Task.TheVariants as task;
 
 use crate::ends::{Halt, Outside, Refusal};
 use crate::lines::report;
 use crate::publish::Ran;
-use crate::thin::thin_of;
 use mit_engine::{Done, Schedule, run_thin};
-use mit_rows::laws::bags_are_sorted_lists;
 use mit_script::Typed;
 use mit_shelf::{Shelf, Stop};
+use mit_thin::laws::thin_law;
+use mit_thin::thin_of;
 use mit_world::Folder;
 use std::alloc::{AllocError, Global};
 
@@ -36,7 +36,7 @@ pub(crate) fn run<S: Schedule, F: Folder>(
     ensures told { F.files folder.new ≡ F.files folder.old }
     ensures count { F.faults folder.old ≤ F.faults folder.new }
 {
-    bags_are_sorted_lists();
+    thin_law();
     let script = match thin_of(alloc, typed.script()) {
         Ok(Some(script)) => script,
         Ok(None) => return Err(Halt::Refused(Refusal::NotThin)),

@@ -1,10 +1,10 @@
 //! The accepted script of a file.
 ghost use Rattle.std.specs.Prelude.{◌≡◌, ◌≤◌, ◌⊎◌, IfErr, IfOk, IfSome};
-ghost use Rattle.mit_world.specs.Files.{FileMap};
+ghost use Rattle.mit_files.specs.Files.{FileMap};
+ghost use Rattle.mit_files.specs.Names.{IsLegal};
 ghost use Rattle.mit_world.specs.Outside.{AsksAtMost, Rose};
 ghost use Rattle.mit_shelf.specs.Shelf.{Agrees};
 ghost use Rattle.mit_script.specs.Trees.{IsNumbered};
-ghost use Rattle.mit_shelf.specs.Names.{IsLegal};
 ghost use Rattle.mit_app.specs.Ends.{FindsAs, IfOutsideFailed, FindsIn};
 ghost use Rattle.mit_app.specs.declared.ends.Halt.TheVariants as halt;
 ghost use Rattle.mit_app.specs.declared.ends.Outside.TheVariants as outside;

@@ -1,12 +1,12 @@
 //! Running an accepted script step by step.
 ghost use Rattle.std.specs.Prelude.{◌≡◌, ◌≤◌, IfErr, IfOk, IfSome, string_bytes};
 ghost use Rattle.std.specs.FinMap as fin;
-ghost use Rattle.mit_world.specs.Files.{FileMap};
+ghost use Rattle.mit_files.specs.Files.{FileMap};
 ghost use Rattle.mit_world.specs.Outside.{Rose};
 ghost use Rattle.mit_shelf.specs.Shelf.{Agrees};
+ghost use Rattle.mit_words.specs.declared.words.Task.TheVariants as task;
 ghost use Rattle.mit_app.specs.Ends.{IfOutsideFailed, RunsAs};
 ghost use Rattle.mit_app.specs.Lines.{step_line};
-ghost use Rattle.mit_app.specs.declared.words.Task.TheVariants as task;
 
 use crate::ends::{Halt, Outside, Refusal};
 use crate::lines::step_report;

@@ -2,7 +2,7 @@
 use Rattle.std.proofs.Common.{◌≡◌, ◌∙◌, ◌≤◌, ◌+◌, ℕ, zero, suc, List, [], ◌∷◌, ◌++◌, length, map, ap, sym, subst, refl, arith, append_assoc, length-append, Bool, true, false, Ok, Err, None}
 use Rattle.std.specs.Prelude.{if◌then◌else◌}
 use Rattle.mit_rows.specs.Bags.{BagOf, RowOf}
-use Rattle.mit_world.specs.Files.{FileMap}
+use Rattle.mit_files.specs.Files.{FileMap}
 use Rattle.mit_ops.specs.Answers.{BagOrFault}
 use Rattle.mit_ops.specs.Endings.{Ending, truth_in}
 use Rattle.mit_ops.specs.Operators.{name_written, whole}

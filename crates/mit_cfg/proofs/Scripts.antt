@@ -4,7 +4,7 @@ use Rattle.std.specs.Prelude.{if◌then◌else◌, sum}
 use Rattle.std.proofs.lemmas.List.{drop_at, take_at, append-nil}
 use Rattle.std.proofs.lemmas.List.Elements.{All-drop, All-head, All-tail, All-take, All-weaker}
 use Rattle.std.proofs.lemmas.List.Sums.{sum_by-cons}
-use Rattle.mit_world.specs.Files.{FileMap}
+use Rattle.mit_files.specs.Files.{FileMap}
 use Rattle.mit_ops.specs.Endings.{finished}
 use Rattle.mit_ops.specs.declared.kinds.OpSpec.{OpSpec}
 use Rattle.mit_ops.specs.declared.leave.Leave.TheVariants.{End}

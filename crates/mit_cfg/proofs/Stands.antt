@@ -1,7 +1,7 @@
 -- Statements that are cut into blocks, and what walking these does.
 use Rattle.std.proofs.Common.{◌≡◌, ◌∙◌, ◌≤◌, ◌+◌, ℕ, List, [], ◌++◌, length, map, ap, sym, subst, refl, arith, append_assoc, length-append, Ok, Err, Option, Some, None}
 use Rattle.mit_rows.specs.Bags.{BagOf}
-use Rattle.mit_world.specs.Files.{FileMap}
+use Rattle.mit_files.specs.Files.{FileMap}
 use Rattle.mit_ops.specs.Answers.{BagOrFault}
 use Rattle.mit_ops.specs.Endings.{Ending, stopped}
 use Rattle.mit_ops.specs.Operators.{name_written, whole}

@@ -1,7 +1,7 @@
 -- Walking the blocks of a script: one place of the path after another.
 use Rattle.std.specs.Prelude.{ℕ, zero, suc, ◌+◌, List, [], ◌∷◌, ◌++◌, map, if◌then◌else◌, slice_index_or, Option, Some, None, Result, Ok, Err}
 use Rattle.mit_rows.specs.Bags.{BagOf}
-use Rattle.mit_world.specs.Files.{FileMap}
+use Rattle.mit_files.specs.Files.{FileMap}
 use Rattle.mit_ops.specs.Answers.{BagOrFault}
 use Rattle.mit_ops.specs.Endings.{Ending, finished, stopped, truth_in}
 use Rattle.mit_ops.specs.Operators.{name_written, whole}

@@ -1,6 +1,6 @@
 //! Laws of blocks. Each is the contract of a function that does nothing.
 ghost use Rattle.std.specs.Prelude.{◌≡◌, ℕ, ◌+◌, ◌*◌, List, length};
-ghost use Rattle.mit_world.specs.Files.{FileMap};
+ghost use Rattle.mit_files.specs.Files.{FileMap};
 ghost use Rattle.mit_ops.specs.Endings.{Ending};
 ghost use Rattle.mit_script.specs.Execution.{exec};
 ghost use Rattle.mit_script.specs.Trees.{IsFormed};

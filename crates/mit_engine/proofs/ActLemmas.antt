@@ -3,13 +3,13 @@ use Rattle.std.proofs.Common.{◌≡◌, ◌∙◌, ◌<◌, ℕ, List, ap, drop
 use Rattle.std.specs.Prelude.{true, Option, Some, IfSome, Result, slice_get, slice_set}
 use Rattle.std.proofs.lemmas.Option.{get_or_from_slice_get}
 use Rattle.mit_rows.specs.Bags.{BagOf}
-use Rattle.mit_world.specs.Files.{FileMap}
+use Rattle.mit_files.specs.Files.{FileMap}
+use Rattle.mit_shelf.specs.Shelf.{Agrees, Kept}
+use Rattle.mit_ops.specs.declared.faults.FaultKind.{FaultKind}
 use Rattle.mit_engine.specs.Operators.{IsPollReady, JobState, after_poll, bags_here, due_bag, hears, is_pollable, takes_part, with_operators}
 use Rattle.mit_engine.specs.Running.{Goes, HasPart, IsEnabled, JobStands, OperatorCan}
-use Rattle.mit_shelf.specs.Shelf.{Agrees, Kept}
 use Rattle.mit_engine.specs.Thin.{IsFormedThin}
 use Rattle.mit_engine.specs.declared.edges.Edge.{Edge}
-use Rattle.mit_ops.specs.declared.faults.FaultKind.{FaultKind}
 use Rattle.mit_engine.specs.declared.job.Action.{Action}
 use Rattle.mit_engine.specs.declared.job.Action.TheVariants as action
 use Rattle.mit_engine.specs.declared.operators.Operator.{Operator}

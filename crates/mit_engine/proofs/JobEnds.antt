@@ -3,13 +3,13 @@ use Rattle.std.proofs.Common.{◌≡◌, ◌∙◌, ◌<◌, ◌+◌, ℕ, List,
 use Rattle.std.specs.Prelude.{suc, ◌⊎◌, Option, Some, None, Ok, Err, Bool, true, false, nat_lt, slice_get, slice_set, if◌then◌else◌}
 use Rattle.std.proofs.lemmas.List.{append-nil, get_or-map, length-map, map-append, map-set}
 use Rattle.mit_rows.specs.Bags.{BagOf, bag_sum}
-use Rattle.mit_world.specs.Files.{FileMap}
-use Rattle.mit_shelf.specs.Printed.{Write}
+use Rattle.mit_files.specs.Files.{FileMap}
+use Rattle.mit_csv.specs.Printed.{Write}
 use Rattle.mit_shelf.specs.Shelf.{Agrees, Kept}
+use Rattle.mit_ops.specs.declared.faults.FaultKind.{FaultKind}
 use Rattle.mit_engine.specs.Thin.{Finished, Faulted, IsFormedThin, after_read, item_put, variable_bag, exec_thin, exec_from}
 use Rattle.mit_engine.specs.Operators.{FitsVariables, JobState, assigned_after, assigner, sources, sources_from, sources_of, staged_write, due_bag, staged_writes}
 use Rattle.mit_engine.specs.Running.{JobHolds, MadeOf, Means, MadePart, Unmade, Made, AtFault, ReportsPart, StagesPart, JobStands, bags_made, verdict_from, verdict_of, with_made_bag}
-use Rattle.mit_ops.specs.declared.faults.FaultKind.{FaultKind}
 use Rattle.mit_engine.specs.declared.job.Verdict.TheVariants as verdict
 use Rattle.mit_engine.specs.declared.operators.Operator.{Operator}
 use Rattle.mit_engine.specs.declared.operators.Outcome.TheVariants as outcome

@@ -4,15 +4,15 @@ use Rattle.std.specs.Prelude.{Option, Some, None, IfSome, Ok, sum_by}
 use Rattle.std.proofs.lemmas.List.{append-nil}
 use Rattle.std.proofs.lemmas.List.Elements.{All-append}
 use Rattle.std.proofs.lemmas.Option.{slice_get_within}
-use Rattle.mit_world.specs.Files.{FileMap}
+use Rattle.mit_files.specs.Files.{FileMap}
+use Rattle.mit_csv.specs.Printed.{published}
+use Rattle.mit_shelf.specs.Shelf.{Agrees, Kept}
+use Rattle.mit_ops.specs.declared.faults.FaultKind.{FaultKind}
 use Rattle.mit_engine.specs.Job.{AnswersEnding}
 use Rattle.mit_engine.specs.Operators.{JobState, actions_left, first_job, staged_writes}
 use Rattle.mit_engine.specs.Picks.{GrowsBy, GrowsWithin}
-use Rattle.mit_shelf.specs.Printed.{published}
 use Rattle.mit_engine.specs.Running.{Goes, JobStands, verdict_of}
-use Rattle.mit_shelf.specs.Shelf.{Agrees, Kept}
 use Rattle.mit_engine.specs.Thin.{Faulted, IsFormedThin, action_count, edges_of, exec_thin}
-use Rattle.mit_ops.specs.declared.faults.FaultKind.{FaultKind}
 use Rattle.mit_engine.specs.declared.job.Verdict.TheVariants as verdict
 use Rattle.mit_engine.specs.declared.schedule.Pick.{Pick}
 use Rattle.mit_engine.specs.declared.thin.TheConstants.{MAX_STATEMENTS}

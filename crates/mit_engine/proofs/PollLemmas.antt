@@ -8,12 +8,12 @@ use Rattle.std.proofs.lemmas.List.Elements.{All-nil}
 use Rattle.std.proofs.lemmas.List.Folds.{map_fixed}
 use Rattle.std.proofs.lemmas.Simd.{map-map}
 use Rattle.mit_rows.specs.Bags.{BagOf}
-use Rattle.mit_world.specs.Files.{FileMap}
+use Rattle.mit_files.specs.Files.{FileMap}
 use Rattle.mit_shelf.specs.Shelf.{Agrees, Kept}
+use Rattle.mit_ops.specs.declared.faults.FaultKind.{FaultKind}
 use Rattle.mit_engine.specs.Thin.{FormedFrom, IsFormedThin, edges_of}
 use Rattle.mit_engine.specs.Operators.{IsPollReady, JobState, actions_left, after_poll, assigned_after, bag_received, bags_here, due_bag, edge_left, fed_of, feeds_bag, is_here, is_pollable, is_received, left_of, operator_left, passed_on, polls, sends, sends_all, sources, with_operators}
 use Rattle.mit_engine.specs.Running.{AtFault, EdgeHolds, Goes, JobHolds, JobStands, Made, MadeOf, MadePart, Means, OperatorCan, OperatorHolds, PathHolds, ReportsPart, StagesPart, Unmade, bags_made, with_made_bag}
-use Rattle.mit_ops.specs.declared.faults.FaultKind.{FaultKind}
 use Rattle.mit_engine.specs.declared.edges.Edge.{Edge}
 use Rattle.mit_engine.specs.declared.edges.Received.{Received}
 use Rattle.mit_engine.specs.declared.edges.Received.TheVariants.{Awaited, Here, Fed}

@@ -1,11 +1,11 @@
 -- How the thin job answers.
 use Rattle.std.specs.Prelude.{◌≡◌, ⊤, List, Result, Ok, Err}
-use Rattle.mit_shelf.specs.Printed.{Write, published}
-use Rattle.mit_engine.specs.Thin.{ThinEnding, Finished, Faulted, action_count}
-use Rattle.mit_ops.specs.declared.faults.ScriptFault.{ScriptFault}
-use Rattle.mit_engine.specs.declared.thin.Done.{Done}
+use Rattle.mit_csv.specs.Printed.{Write, published}
 use Rattle.mit_shelf.specs.declared.stop.Stop.{Stop}
 use Rattle.mit_shelf.specs.declared.stop.Stop.TheVariants as stop
+use Rattle.mit_ops.specs.declared.faults.ScriptFault.{ScriptFault}
+use Rattle.mit_engine.specs.Thin.{ThinEnding, Finished, Faulted, action_count}
+use Rattle.mit_engine.specs.declared.thin.Done.{Done}
 use Rattle.mit_engine.specs.declared.thin.ThinStep.{ThinStep}
 
 -- an answer of the job is the interpreter's ending; a failed folder and out of memory say nothing of it

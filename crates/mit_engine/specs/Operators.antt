@@ -4,14 +4,14 @@ use Rattle.std.specs.Prelude.{◌≡◌, ◌<◌, ◌≤◌, ⊤, ℕ, ◌+◌, 
 use Rattle.std.specs.List.{list_all}
 use Rattle.mit_rows.specs.Bags.{BagOf, bag_sum}
 use Rattle.mit_rows.specs.declared.row.TheConstants.{MAX_COLUMNS}
-use Rattle.mit_world.specs.Files.{FileMap}
-use Rattle.mit_shelf.specs.Printed.{Write}
-use Rattle.mit_engine.specs.Reads.{integers, read_bag}
-use Rattle.mit_shelf.specs.Names.{IsLegal}
-use Rattle.mit_engine.specs.Thin.{item_put}
-use Rattle.mit_ops.specs.declared.faults.FaultKind.{FaultKind}
+use Rattle.mit_files.specs.Files.{FileMap}
+use Rattle.mit_files.specs.Names.{IsLegal}
+use Rattle.mit_csv.specs.Printed.{Write}
 use Rattle.mit_shelf.specs.declared.stop.Stop.{Stop}
 use Rattle.mit_shelf.specs.declared.stop.Stop.TheVariants as stop
+use Rattle.mit_ops.specs.declared.faults.FaultKind.{FaultKind}
+use Rattle.mit_engine.specs.Reads.{integers, read_bag}
+use Rattle.mit_engine.specs.Thin.{item_put}
 use Rattle.mit_engine.specs.declared.edges.Edge.{Edge}
 use Rattle.mit_engine.specs.declared.edges.Received.{Received}
 use Rattle.mit_engine.specs.declared.edges.Received.TheVariants.{Awaited, Here, Fed}

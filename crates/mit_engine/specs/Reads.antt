@@ -4,10 +4,10 @@ use Rattle.std.specs.FinMap as map
 use Rattle.mit_rows.specs.Bags.{BagOf, RowOf, bag_of}
 use Rattle.mit_rows.specs.declared.value.ColType.{ColType}
 use Rattle.mit_rows.specs.declared.value.ColType.TheVariants.{Int}
-use Rattle.mit_world.specs.Files.{FileMap}
+use Rattle.mit_files.specs.Files.{FileMap}
+use Rattle.mit_csv.specs.Rows.{rows_of}
 use Rattle.mit_ops.specs.declared.faults.FaultKind.{FaultKind}
 use Rattle.mit_ops.specs.declared.faults.FaultKind.TheVariants.{NoFile, BadRow}
-use Rattle.mit_shelf.specs.Rows.{rows_of}
 
 -- the bag of a file's rows, or the fault of the read
 abbrev pub bag_of_rows : Result (List RowOf) ℕ → Result BagOf FaultKind

@@ -2,10 +2,10 @@
 -- hold at each moment.
 use Rattle.std.specs.Prelude.{◌≡◌, ◌<◌, ⊤, ◌⊎◌, ℕ, ◌+◌, List, [], ◌∷◌, ◌++◌, length, map, slice_get, Bool, true, false, if◌then◌else◌, Option, Some, None, Ok, Err}
 use Rattle.mit_rows.specs.Bags.{BagOf}
-use Rattle.mit_world.specs.Files.{FileMap}
+use Rattle.mit_files.specs.Files.{FileMap}
 use Rattle.mit_shelf.specs.Shelf.{Agrees, Kept}
-use Rattle.mit_engine.specs.Operators.{JobState, actions_left, due_bag, is_pollable, sources}
 use Rattle.mit_ops.specs.declared.faults.FaultKind.{FaultKind}
+use Rattle.mit_engine.specs.Operators.{JobState, actions_left, due_bag, is_pollable, sources}
 use Rattle.mit_engine.specs.declared.edges.Edge.{Edge}
 use Rattle.mit_engine.specs.declared.edges.Received.{Received}
 use Rattle.mit_engine.specs.declared.edges.Received.TheVariants.{Awaited, Here, Fed}

@@ -2,11 +2,11 @@
 use Rattle.std.specs.Prelude.{◌≡◌, ◌<◌, ◌≤◌, ◌+◌, ◌*◌, ⊤, ◌⊎◌, ℕ, List, [], ◌∷◌, ◌++◌, length, slice_get, slice_set, slice_index_or, sum_by, Some, Result, Ok, Err, if◌then◌else◌, nat_lt}
 use Rattle.mit_rows.specs.Bags.{BagOf, bag_sum}
 use Rattle.mit_rows.specs.declared.row.TheConstants.{MAX_COLUMNS}
-use Rattle.mit_world.specs.Files.{FileMap}
-use Rattle.mit_shelf.specs.Names.{IsLegal}
-use Rattle.mit_shelf.specs.Printed.{Write}
-use Rattle.mit_engine.specs.Reads.{integers, read_bag}
+use Rattle.mit_files.specs.Files.{FileMap}
+use Rattle.mit_files.specs.Names.{IsLegal}
+use Rattle.mit_csv.specs.Printed.{Write}
 use Rattle.mit_ops.specs.declared.faults.FaultKind.{FaultKind}
+use Rattle.mit_engine.specs.Reads.{integers, read_bag}
 use Rattle.mit_engine.specs.declared.thin.TheConstants.{MAX_STATEMENTS}
 use Rattle.mit_engine.specs.declared.thin.ThinStep.{ThinStep}
 use Rattle.mit_engine.specs.declared.thin.ThinStep.TheVariants as step

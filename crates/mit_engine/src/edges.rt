@@ -4,7 +4,7 @@ ghost use Rattle.std.specs.List.{list_all, list_any};
 ghost use Rattle.mit_engine.specs.Operators.{bag_received, bags_here, feeds_bag, first_edge, is_here, sends, takes_part};
 
 use crate::channel::Channel;
-use mit_rows::Bag;
+use mit_bags::Bag;
 use std::alloc::{AllocError, Global};
 use std::marker::Model;
 use std::mem;

@@ -1,13 +1,13 @@
 //! The running job of a thin script, and its actions: deliveries of messages and polls of operators.
 ghost use Rattle.std.specs.Prelude.{◌≡◌, ◌≤◌, ◌<◌, ◌++◌, true, Result, IfErr, IfOk, IfSome, OnOk, drop, length, slice_get, vec_len};
 ghost use Rattle.mit_rows.specs.Bags.{BagOf};
-ghost use Rattle.mit_world.specs.Files.{FileMap};
+ghost use Rattle.mit_files.specs.Files.{FileMap};
+ghost use Rattle.mit_csv.specs.Printed.{published};
 ghost use Rattle.mit_world.specs.Outside.{IfFailed, Rose};
-ghost use Rattle.mit_engine.specs.Operators.{IsPollReady, after_poll, bags_here, first_job, passed_on, due_bag, with_operators, staged_writes};
-ghost use Rattle.mit_ops.specs.declared.faults.FaultKind.{FaultKind};
-ghost use Rattle.mit_shelf.specs.Printed.{published};
-ghost use Rattle.mit_engine.specs.Running.{Goes, IsEnabled, JobStands, edge_parts_from, offer_of, parts_from, polls_from, reports_from, verdict_of};
 ghost use Rattle.mit_shelf.specs.Shelf.{Agrees};
+ghost use Rattle.mit_ops.specs.declared.faults.FaultKind.{FaultKind};
+ghost use Rattle.mit_engine.specs.Operators.{IsPollReady, after_poll, bags_here, first_job, passed_on, due_bag, with_operators, staged_writes};
+ghost use Rattle.mit_engine.specs.Running.{Goes, IsEnabled, JobStands, edge_parts_from, offer_of, parts_from, polls_from, reports_from, verdict_of};
 ghost use Rattle.mit_engine.specs.Thin.{IsFormedThin};
 
 use crate::channel::Channel;
@@ -15,8 +15,8 @@ use crate::edges::Edge;
 use crate::operators::{Operator, Outcome, files_of, operators_of, send};
 use crate::polls::whole;
 use crate::thin::ThinStep;
+use mit_bags::Bag;
 use mit_ops::FaultKind;
-use mit_rows::Bag;
 use mit_shelf::{Shelf, Stop};
 use mit_world::{Files, Folder, OutsideStop};
 use std::alloc::{AllocError, Global};

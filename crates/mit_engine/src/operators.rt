@@ -1,15 +1,15 @@
 //! The operators of a job, one for each statement.
 ghost use Rattle.std.specs.Prelude.{◌≡◌, ◌≤◌, ◌++◌, ◌∷◌, [], true, IfOk, OnOk, drop, length, map, take, vec_len};
 ghost use Rattle.std.specs.FinMap as fin;
+ghost use Rattle.mit_csv.specs.Printed.{bag_text, published, published_onto};
 ghost use Rattle.mit_engine.specs.Operators.{FitsVariables, assigned_after, first_operator, hears, is_pollable, sends_all, sources, sources_of, staged_writes};
-ghost use Rattle.mit_shelf.specs.Printed.{bag_text, published, published_onto};
 ghost use Rattle.mit_engine.specs.Thin.{IsFormedThin};
 
 use crate::channel::Channel;
 use crate::edges::Inputs;
 use crate::thin::ThinStep;
+use mit_bags::Bag;
 use mit_ops::FaultKind;
-use mit_rows::Bag;
 use mit_shelf::{Name, print_rows};
 use mit_world::Files;
 use std::alloc::{AllocError, Global};
@@ -140,7 +140,7 @@ pub(crate) fn files_of(
 }
 
 // Writes the file of an operator, where it is a write that has staged its bag.
-#[tactic(auto, unfolding(crate::specs::Operators::staged_writes, mit_shelf::specs::Printed::published_onto))]
+#[tactic(auto, unfolding(crate::specs::Operators::staged_writes, mit_csv::specs::Printed::published_onto))]
 fn write_staged(
     alloc: Global,
     written: &mut Files,

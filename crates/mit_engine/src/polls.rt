@@ -1,17 +1,18 @@
 //! What a poll makes of an operator's inputs.
 ghost use Rattle.std.specs.Prelude.{◌≡◌, ◌≢◌, ◌≤◌, IfErr, IfSome, length};
-ghost use Rattle.mit_world.specs.Files.{FileMap};
+ghost use Rattle.mit_files.specs.Files.{FileMap};
+ghost use Rattle.mit_files.specs.Names.{IsLegal};
+ghost use Rattle.mit_csv.specs.Rows.{rows_of};
 ghost use Rattle.mit_world.specs.Outside.{Rose};
-ghost use Rattle.mit_engine.specs.Operators as spec;
-ghost use Rattle.mit_engine.specs.Reads.{bag_of_rows, integers, read_bag};
-ghost use Rattle.mit_shelf.specs.Names.{IsLegal};
-ghost use Rattle.mit_shelf.specs.Rows.{rows_of};
 ghost use Rattle.mit_shelf.specs.Shelf.{Agrees};
 ghost use Rattle.mit_shelf.specs.Stops.{IfFolder};
+ghost use Rattle.mit_engine.specs.Operators as spec;
+ghost use Rattle.mit_engine.specs.Reads.{bag_of_rows, integers, read_bag};
 
 use crate::thin::ThinStep;
+use mit_bags::Bag;
 use mit_ops::FaultKind;
-use mit_rows::{Bag, ColType, MAX_COLUMNS};
+use mit_rows::{ColType, MAX_COLUMNS};
 use mit_shelf::{FetchFault, Name, RowsRefused, Shelf, Stop, parse_rows};
 use mit_world::Folder;
 use std::alloc::Global;

@@ -1,12 +1,12 @@
 //! Thin scripts, their statements, and the job that runs them.
 ghost use Rattle.std.specs.Prelude.{◌≡◌, ◌≤◌, ◌+◌, IfErr, IfOk, IfSome, OnOk};
-ghost use Rattle.mit_world.specs.Files.{FileMap};
+ghost use Rattle.mit_files.specs.Files.{FileMap};
 ghost use Rattle.mit_world.specs.Outside.{IfFailed, Rose};
+ghost use Rattle.mit_shelf.specs.Shelf.{Agrees};
+ghost use Rattle.mit_shelf.specs.Stops.{IfFolder};
 ghost use Rattle.mit_engine.specs.Job.{AnswersEnding};
 ghost use Rattle.mit_engine.specs.Picks.{GrowsBy, GrowsWithin};
 ghost use Rattle.mit_engine.specs.Running.{Goes, JobStands, verdict_of};
-ghost use Rattle.mit_shelf.specs.Shelf.{Agrees};
-ghost use Rattle.mit_shelf.specs.Stops.{IfFolder};
 ghost use Rattle.mit_engine.specs.Thin.{IsFormedThin, action_count, exec_thin};
 ghost use Rattle.mit_engine.specs.declared.job.Verdict.TheVariants as verdict;
 

@@ -1,5 +1,5 @@
 -- The value of an expression, or its first fault. Operands are evaluated from left to right.
-use Rattle.std.specs.Prelude.{◌≡◌, ⊤, ℕ, zero, suc, ◌++◌, ◌^◌, ℤ, pos, negsuc, ◌+ℤ◌, ◌-ℤ◌, ◌*ℤ◌, List, length, true, false, not, Option, Some, None, Result, Ok, Err, slice_get, if◌then◌else◌, nat_le, nat_lt, int_div, int_rem}
+use Rattle.std.specs.Prelude.{◌≡◌, ⊤, ℕ, zero, suc, ◌++◌, ◌^◌, ℤ, pos, negsuc, ◌+ℤ◌, ◌-ℤ◌, ◌*ℤ◌, List, length, true, false, not, Option, Some, None, slice_get, if◌then◌else◌, nat_le, nat_lt, int_div, int_rem}
 use Rattle.std.specs.Ordering.{is_eq, is_gt, is_lt}
 use Rattle.std.specs.Fmt.{signed_decimal}
 use Rattle.mit_rows.specs.Integers.{int_of}
@@ -17,8 +17,6 @@ use Rattle.mit_expr.specs.declared.expr.Expr.TheFolds.{fold-Expr}
 use Rattle.mit_expr.specs.declared.expr.Expr.TheOpen.{Expr-F}
 use Rattle.mit_expr.specs.declared.expr.Expr.TheOpen as expr
 use Rattle.mit_expr.specs.Types.{type_of_value}
-use Rattle.mit_expr.specs.declared.values.EvalFault.{EvalFault}
-use Rattle.mit_expr.specs.declared.values.EvalFault.TheVariants.{Overflow, DivideByZero, NotNumber, TextTooLong, NoMemory}
 
 -- why an expression has no value
 pub data ValueFault : Type 0 where
@@ -144,15 +142,6 @@ value_step row captures (expr.Call function arg) = called function arg
 -- the value of an expression at a row and captured values, or its first fault
 abbrev pub value_in : List Value → List Value → Expr → ValueOrFault
 value_in row captures = fold-Expr ValueOrFault (value_step row captures)
-
--- an evaluation gives exactly that value or fault; out of memory says nothing
-abbrev pub Evaluates : ValueOrFault → Result Value EvalFault → Type 0
-Evaluates due (Ok value) = due ≡ gives value
-Evaluates due (Err Overflow) = due ≡ faults overflow
-Evaluates due (Err DivideByZero) = due ≡ faults divide_by_zero
-Evaluates due (Err NotNumber) = due ≡ faults not_number
-Evaluates due (Err TextTooLong) = due ≡ faults text_too_long
-Evaluates due (Err NoMemory) = ⊤
 
 -- a value of this type, or a fault
 abbrev pub IsTyped : ColType → ValueOrFault → Type 0

@@ -1,11 +1,8 @@
-//! Expressions over a row and captured scalars: their types and their values.
+//! Expressions over a row and captured scalars, and their types. What their values are stands here as a definition.
 #![tactic(auto)]
 
 mod expr;
-pub mod laws;
 mod types;
-mod values;
 
 pub use expr::{BinOp, Call, Expr};
 pub use types::{ExprType, type_of, type_of_value};
-pub use values::{EvalFault, eval};

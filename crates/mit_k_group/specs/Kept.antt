@@ -3,10 +3,10 @@ use Rattle.std.specs.Prelude.{◌≡◌, List, [], ◌∷◌, Bool, true, false}
 use Rattle.mit_rows.specs.Bags.{RowOf}
 use Rattle.mit_ops.specs.Forms.{once_each}
 use Rattle.mit_ops.specs.Parts.{Fits}
-use Rattle.mit_ops.specs.TotalStored.{total_of}
 use Rattle.mit_ops.specs.declared.kinds.Agg.TheVariants as agg
 use Rattle.mit_ops.specs.declared.kinds.OpSpec.{OpSpec}
 use Rattle.mit_ops.specs.declared.kinds.OpSpec.TheVariants as op
+use Rattle.mit_apply.specs.TotalStored.{total_of}
 use Rattle.mit_keyed.specs.Groups.{grouped}
 use Rattle.mit_k_group.specs.OnlyRow.{IsFirst}
 use Rattle.mit_k_group.specs.declared.running.Running.{Running}

@@ -1,14 +1,15 @@
 //! A slot of a kernel: an operator in one partition of so many, with what is kept of the rows that it was fed.
 ghost use Rattle.std.specs.Prelude.{◌≡◌, ◌<◌, IfOk, OnErr, OnOk, Some, length};
-ghost use Rattle.mit_kernel.specs.Meaning.{kept_lists, no_rows, part_in, with_lists, with_row};
 ghost use Rattle.mit_ops.specs.Kinds.{kind_of};
 ghost use Rattle.mit_ops.specs.Parts.{Fits};
+ghost use Rattle.mit_kernel.specs.Meaning.{kept_lists, no_rows, part_in, with_lists, with_row};
 ghost use Rattle.mit_k_group.specs.GroupKinds.{IsGroupKind};
 
 use crate::history::History;
 use crate::running::Running;
-use mit_ops::laws::fewer_rows_law;
-use mit_ops::{Answer, OpSpec};
+use mit_apply::Answer;
+use mit_op_laws::laws::fewer_rows_law;
+use mit_ops::OpSpec;
 use mit_rows::Row;
 use std::alloc::{AllocError, Global};
 use std::marker::Model;

@@ -1,12 +1,12 @@
 //! The kernel of a kind of operators that groups rows.
-ghost use Rattle.std.specs.Prelude.{◌≡◌, ◌<◌, IfOk, OnErr, OnOk, None, length};
+ghost use Rattle.std.specs.Prelude.{◌≡◌, ◌<◌, IfOk, OnErr, None};
 ghost use Rattle.mit_kernel.specs.Finishing.{Finishes};
-ghost use Rattle.mit_ops.specs.Answers.{BagOrFault};
 ghost use Rattle.mit_k_group.specs.GroupKinds.{IsGroupKind};
 
 use crate::entry::Entry;
+use mit_apply::Answer;
 use mit_kernel::{Finished, Kernel};
-use mit_ops::{Answer, OpSpec};
+use mit_ops::OpSpec;
 use mit_rows::Row;
 use slab::Slab;
 use std::alloc::{AllocError, Global};

@@ -5,7 +5,8 @@ ghost use Rattle.mit_ops.specs.Answers.{at_row, settled};
 ghost use Rattle.mit_ops.specs.Operators.{single};
 ghost use Rattle.mit_k_group.specs.OnlyRow.{IsFirst};
 
-use mit_ops::{Answer, FaultKind};
+use mit_apply::Answer;
+use mit_ops::FaultKind;
 use mit_rows::Row;
 use std::alloc::{AllocError, Global};
 

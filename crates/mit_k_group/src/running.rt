@@ -9,9 +9,10 @@ ghost use Rattle.mit_k_group.specs.Kept.{Holds, StandsForRows, is_one, operator}
 
 use crate::only::{Only, answer_only, count_row};
 use indexmap::{IndexMap, IndexSet};
+use mit_apply::{Answer, Key, Total};
 use mit_keyed::laws::{distinct_law, groups_law, totals_law};
 use mit_keyed::{add_to_group, answer_groups, answer_kept, answer_total, keep_once};
-use mit_ops::{Agg, Answer, Columns, Key, OpSpec, Total};
+use mit_ops::{Agg, Columns, OpSpec};
 use mit_rows::Row;
 use std::alloc::{AllocError, Global};
 

@@ -5,12 +5,12 @@ use Rattle.std.specs.FinMap as fin
 use Rattle.std.specs.List.{flat_map}
 use Rattle.mit_rows.specs.Bags.{RowOf, bag_of}
 use Rattle.mit_rows.specs.declared.value.Value.{Value}
-use Rattle.mit_world.specs.Files.{FileMap}
-use Rattle.mit_kernel.specs.Meaning.{AddsRows, Slot, part_in}
+use Rattle.mit_files.specs.Files.{FileMap}
 use Rattle.mit_ops.specs.Forms.{rows_at, whole_answer}
 use Rattle.mit_ops.specs.Operators.{captured, form_of, part_apply}
 use Rattle.mit_ops.specs.declared.kinds.OpSpec.TheVariants as op
 use Rattle.mit_keyed.specs.Indexes.{matches_of}
+use Rattle.mit_kernel.specs.Meaning.{AddsRows, Slot, part_in}
 
 module _ (all : (left right : List ℕ) (lefts rights : List RowOf) (files : FileMap) (captures : List Value) →
     Ok (bag_of (flat_map (matches_of left right lefts) rights)) ≡ whole_answer (form_of (op.Join left right) files captures) (lefts ∷ rights ∷ [])) where

@@ -1,15 +1,16 @@
 //! A slot of the kernel: what it was fed, with an index of its left rows.
 ghost use Rattle.std.specs.Prelude.{◌≡◌, ◌<◌, IfOk, OnErr, OnOk, Some, length, take};
-ghost use Rattle.mit_kernel.specs.Meaning.{AddsRows, kept_lists, no_rows, part_in, with_lists, with_row};
 ghost use Rattle.mit_ops.specs.Kinds.{kind_of};
 ghost use Rattle.mit_ops.specs.Parts.{Fits};
 ghost use Rattle.mit_ops.specs.declared.kinds.OpSpec.TheVariants as op;
+ghost use Rattle.mit_kernel.specs.Meaning.{AddsRows, kept_lists, no_rows, part_in, with_lists, with_row};
 
+use mit_apply::hash_of;
 use mit_kernel::Fed;
 use mit_keyed::laws::index_law;
 use mit_keyed::{Index, add_joined};
-use mit_ops::laws::fitting_law;
-use mit_ops::{OpSpec, hash_of};
+use mit_op_laws::laws::fitting_law;
+use mit_ops::OpSpec;
 use mit_rows::Row;
 use std::alloc::{AllocError, Global};
 use std::marker::Model;

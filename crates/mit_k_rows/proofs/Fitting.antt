@@ -6,7 +6,7 @@ use Rattle.mit_rows.specs.declared.row.TheConstants.{MAX_COLUMNS}
 use Rattle.mit_rows.specs.declared.value.ColType.{ColType}
 use Rattle.mit_rows.specs.declared.value.ColType.TheVariants as is
 use Rattle.mit_rows.specs.declared.value.Value.{Value}
-use Rattle.mit_world.specs.Files.{FileMap}
+use Rattle.mit_files.specs.Files.{FileMap}
 use Rattle.mit_expr.specs.Types.{type_in, type_of_value}
 use Rattle.mit_expr.specs.declared.expr.Expr.{Expr}
 use Rattle.mit_ops.specs.Answers.{at_row, settled}

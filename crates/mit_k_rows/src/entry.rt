@@ -13,8 +13,9 @@ ghost use Rattle.mit_k_rows.specs.Gives.{rows_given, sum_given};
 ghost use Rattle.mit_k_rows.specs.RowKinds.{IsRowKind};
 
 use crate::each::{add_once, add_rows, rows_may_be_asked};
+use mit_apply::Answer;
 use mit_kernel::{Fed, Finished};
-use mit_ops::{Answer, OpSpec};
+use mit_ops::OpSpec;
 use mit_rows::{Row, Value};
 use std::alloc::{AllocError, Global};
 use std::marker::Model;

@@ -1,12 +1,12 @@
 //! A slot of a kernel, as kernels store it.
-ghost use Rattle.std.specs.Prelude.{◌≡◌, ◌<◌, ◌≤◌, [], IfOk, OnErr, OnOk, length, map, option_map, replicate};
-ghost use Rattle.mit_kernel.specs.Meaning.{kept_lists, no_rows, with_lists, with_row};
+ghost use Rattle.std.specs.Prelude.{◌≡◌, ◌<◌, [], IfOk, OnErr, OnOk, length, map, option_map, replicate};
 ghost use Rattle.mit_ops.specs.Forms.{rows_at};
 ghost use Rattle.mit_ops.specs.Operators.{captured, captures_among, scalar_in};
 ghost use Rattle.mit_ops.specs.Parts.{Fits};
+ghost use Rattle.mit_kernel.specs.Meaning.{kept_lists, no_rows, with_lists, with_row};
 
+use mit_op_laws::laws::fewer_rows_law;
 use mit_ops::OpSpec;
-use mit_ops::laws::fewer_rows_law;
 use mit_rows::{Row, Value};
 use std::alloc::{AllocError, Global};
 use std::marker::Model;

@@ -9,23 +9,23 @@ use Rattle.mit_rows.specs.declared.row.TheConstants.{MAX_COLUMNS}
 use Rattle.mit_rows.specs.declared.value.ColType.{ColType}
 use Rattle.mit_rows.specs.declared.value.Value.{Value}
 use Rattle.mit_rows.specs.declared.value.Value.TheVariants.{Int}
-use Rattle.mit_world.specs.Files.{FileMap}
+use Rattle.mit_files.specs.Files.{FileMap}
 use Rattle.mit_expr.specs.Types.{type_of_value}
 use Rattle.mit_expr.specs.Values.{faults, gives, overflow, untyped, within}
 use Rattle.mit_ops.specs.Answers.{BagOrFault, at_row, both, over}
 use Rattle.mit_ops.specs.EachRow.{given}
 use Rattle.mit_ops.specs.Forms.{add_key, once_each, rows_at, same_row, whole_answer, with_key}
-use Rattle.mit_ops.specs.KeyLaws.{same_itself}
 use Rattle.mit_ops.specs.Keys.{key_of}
 use Rattle.mit_ops.specs.Operators.{form_of}
 use Rattle.mit_ops.specs.Parts.{Fits, HaveColumns, input_columns}
 use Rattle.mit_ops.specs.Results.{AreBags, IsBagType}
 use Rattle.mit_ops.specs.Totals.{aggregate, total}
-use Rattle.mit_ops.specs.TotalStored.{HasValue, total_of}
 use Rattle.mit_ops.specs.declared.kinds.Agg.{Agg}
 use Rattle.mit_ops.specs.declared.kinds.Agg.TheVariants as agg
 use Rattle.mit_ops.specs.declared.kinds.OpSpec.TheVariants as op
 use Rattle.mit_ops.specs.declared.types.VarType.{VarType}
+use Rattle.mit_apply.specs.KeyLaws.{same_itself}
+use Rattle.mit_apply.specs.TotalStored.{HasValue, total_of}
 use Rattle.mit_keyed.specs.Groups.{GivesRow, group_total, grouped, made_at, paired}
 use Rattle.mit_keyed.proofs.Making.{made_is}
 

@@ -11,11 +11,11 @@ use Rattle.std.proofs.lemmas.List.Sums.{fold_push}
 use Rattle.indexmap.specs.IndexMap.{insert_entry}
 use Rattle.mit_rows.specs.Bags.{RowOf}
 use Rattle.mit_ops.specs.Forms.{add_key, once_each, same_row, with_key}
-use Rattle.mit_ops.specs.KeyLaws.{keys_equal, same_alone, same_itself}
 use Rattle.mit_ops.specs.Keys.{key_of}
-use Rattle.mit_ops.specs.TotalStored.{total_of}
 use Rattle.mit_ops.specs.declared.kinds.Agg.{Agg}
-use Rattle.mit_ops.specs.declared.total.Total.{Total}
+use Rattle.mit_apply.specs.KeyLaws.{keys_equal, same_alone, same_itself}
+use Rattle.mit_apply.specs.TotalStored.{total_of}
+use Rattle.mit_apply.specs.declared.total.Total.{Total}
 use Rattle.mit_keyed.specs.Groups.{group_total, grouped, paired}
 
 or_false : (b : Bool) → (b || false) ≡ b

@@ -4,10 +4,10 @@ use Rattle.mit_rows.specs.Bags.{RowOf}
 use Rattle.mit_ops.specs.Answers.{BagOrFault, at_row, both, settled}
 use Rattle.mit_ops.specs.EachRow.{given}
 use Rattle.mit_ops.specs.Totals.{aggregate}
-use Rattle.mit_ops.specs.TotalStored.{total_of}
 use Rattle.mit_ops.specs.declared.kinds.Agg.{Agg}
 use Rattle.mit_ops.specs.declared.kinds.Agg.TheVariants as agg
-use Rattle.mit_ops.specs.declared.total.Total.{Total}
+use Rattle.mit_apply.specs.TotalStored.{total_of}
+use Rattle.mit_apply.specs.declared.total.Total.{Total}
 use Rattle.mit_keyed.specs.Groups.{made_as, made_at}
 
 pub made_is : (it : Agg) (rows : List RowOf) → made_as (total_of it rows).agg (total_of it rows) ≡ aggregate it rows

@@ -4,13 +4,13 @@ use Rattle.std.specs.List.{filter, flat_map}
 use Rattle.std.proofs.lemmas.Bool.{eq-eqb}
 use Rattle.mit_rows.specs.Bags.{IsBag, RowOf, bag_of}
 use Rattle.mit_rows.specs.declared.value.Value.{Value}
-use Rattle.mit_world.specs.Files.{FileMap}
+use Rattle.mit_files.specs.Files.{FileMap}
 use Rattle.mit_ops.specs.Answers.{both, over}
 use Rattle.mit_ops.specs.Forms.{same_row, whole_answer}
-use Rattle.mit_ops.specs.KeyLaws.{same_alone}
 use Rattle.mit_ops.specs.Keys.{key_hash, key_of}
 use Rattle.mit_ops.specs.Operators.{form_of}
 use Rattle.mit_ops.specs.declared.kinds.OpSpec.TheVariants as op
+use Rattle.mit_apply.specs.KeyLaws.{same_alone}
 use Rattle.mit_keyed.specs.Indexes.{IsIndex, matches_of, places_of, rows_at_places, with_hash}
 use Rattle.mit_keyed.specs.declared.index.Index.{Index}
 

@@ -7,10 +7,10 @@ use Rattle.mit_ops.specs.Answers.{BagOrFault, at_row}
 use Rattle.mit_ops.specs.EachRow.{given}
 use Rattle.mit_ops.specs.Forms.{once_each, with_key}
 use Rattle.mit_ops.specs.Keys.{key_of}
-use Rattle.mit_ops.specs.TotalStored.{HasValue, total_of}
 use Rattle.mit_ops.specs.declared.kinds.Agg.{Agg}
 use Rattle.mit_ops.specs.declared.kinds.Agg.TheVariants as agg
-use Rattle.mit_ops.specs.declared.total.Total.{Total}
+use Rattle.mit_apply.specs.TotalStored.{HasValue, total_of}
+use Rattle.mit_apply.specs.declared.total.Total.{Total}
 
 -- a key with its total
 abbrev pub paired : (RowOf → Total) → RowOf → RowOf × Total

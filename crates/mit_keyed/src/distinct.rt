@@ -7,8 +7,8 @@ ghost use Rattle.mit_ops.specs.Answers.{over};
 ghost use Rattle.mit_ops.specs.Forms.{once_each};
 
 use indexmap::IndexSet;
-use mit_ops::laws::answers_add_up;
-use mit_ops::{Answer, Key};
+use mit_apply::{Answer, Key};
+use mit_op_laws::laws::answers_add_up;
 use mit_rows::Row;
 use std::alloc::{AllocError, Global};
 

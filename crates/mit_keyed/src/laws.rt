@@ -4,22 +4,22 @@ ghost use Rattle.std.specs.List.{All, flat_map};
 ghost use Rattle.mit_rows.specs.Bags.{RowOf, bag_of};
 ghost use Rattle.mit_rows.specs.declared.row.TheConstants.{MAX_COLUMNS};
 ghost use Rattle.mit_rows.specs.declared.value.Value.{Value};
-ghost use Rattle.mit_world.specs.Files.{FileMap};
+ghost use Rattle.mit_files.specs.Files.{FileMap};
 ghost use Rattle.mit_ops.specs.Answers.{over, settled};
 ghost use Rattle.mit_ops.specs.Forms.{once_each, rows_at, whole_answer};
 ghost use Rattle.mit_ops.specs.Keys.{key_hash, key_of};
 ghost use Rattle.mit_ops.specs.Operators.{form_of};
 ghost use Rattle.mit_ops.specs.Parts.{Fits};
-ghost use Rattle.mit_ops.specs.TotalStored.{HasValue, total_of};
 ghost use Rattle.mit_ops.specs.declared.kinds.Agg.{Agg};
 ghost use Rattle.mit_ops.specs.declared.kinds.Agg.TheVariants as agg;
 ghost use Rattle.mit_ops.specs.declared.kinds.OpSpec.TheVariants as op;
+ghost use Rattle.mit_apply.specs.TotalStored.{HasValue, total_of};
 ghost use Rattle.mit_keyed.specs.Groups.{GivesRow, grouped, made_at};
 ghost use Rattle.mit_keyed.specs.Indexes.{IsIndex, Notes, matches_of, places_of};
 ghost use Rattle.mit_keyed.specs.declared.index.Index.{Index};
 
-use mit_ops::laws::fitting_groups_law;
-use mit_rows::laws::bags_are_sorted_lists;
+use mit_bags::laws::bags_are_sorted_lists;
+use mit_op_laws::laws::fitting_groups_law;
 
 /// The totals of the keys of rows that fit a reduction give rows or faults, which are what the reduction answers.
 pub fn groups_law()

@@ -1,11 +1,11 @@
 //! Rows that are made of a total.
 ghost use Rattle.std.specs.Prelude.{◌≡◌, [], IfOk, OnOk};
 ghost use Rattle.mit_ops.specs.Answers.{RowsOrKind, at_row, both, settled};
-ghost use Rattle.mit_ops.specs.Stops.{Stops};
-ghost use Rattle.mit_ops.specs.TotalStored.{HasValue};
+ghost use Rattle.mit_apply.specs.Stops.{Stops};
+ghost use Rattle.mit_apply.specs.TotalStored.{HasValue};
 ghost use Rattle.mit_keyed.specs.Groups.{GivesRow, made_at};
 
-use mit_ops::{Answer, OpStop, Total};
+use mit_apply::{Answer, OpStop, Total};
 use mit_rows::Row;
 use std::alloc::{AllocError, Global};
 

@@ -1,12 +1,11 @@
 //! The rows of a join, by an index of its left rows.
-ghost use Rattle.std.specs.Prelude.{◌≡◌, ◌<◌, ◌≤◌, ◌+◌, ◌++◌, ℕ, IfOk, OnErr, OnOk, length, map, take};
+ghost use Rattle.std.specs.Prelude.{◌≡◌, ◌<◌, ◌+◌, ◌++◌, ℕ, IfOk, OnErr, OnOk, length, map, take};
 ghost use Rattle.std.specs.List.{All, filter, flat_map};
-ghost use Rattle.mit_rows.specs.declared.row.TheConstants.{MAX_COLUMNS};
 ghost use Rattle.mit_ops.specs.Keys.{key_hash, key_of};
 ghost use Rattle.mit_keyed.specs.Indexes.{IsIndex, IsNarrow, has_one_key, joined_row, matches_of, pairs_by_hash, pairs_with, places_of, rows_at_places};
 
 use crate::index::Index;
-use mit_ops::{hash_of, same_key};
+use mit_apply::{hash_of, same_key};
 use mit_rows::Row;
 use std::alloc::{AllocError, Global};
 

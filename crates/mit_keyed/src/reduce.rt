@@ -7,8 +7,9 @@ ghost use Rattle.mit_keyed.specs.Groups.{GivesRow, grouped, made_at};
 
 use crate::made::add_made;
 use indexmap::IndexMap;
-use mit_ops::laws::answers_add_up;
-use mit_ops::{Agg, Answer, Key, Total};
+use mit_apply::{Answer, Key, Total};
+use mit_op_laws::laws::answers_add_up;
+use mit_ops::Agg;
 use mit_rows::Row;
 use std::alloc::{AllocError, Global};
 

@@ -2,7 +2,9 @@
 use Rattle.std.proofs.Common.{◌≡◌, ℕ, List, [], ◌∷◌, length, refl, Some, None}
 use Rattle.std.specs.Prelude.{◌==◌, ◌&&◌, nat_lt, if◌then◌else◌, slice_get}
 use Rattle.mit_rows.specs.Bags.{BagOf}
-use Rattle.mit_world.specs.Files.{FileMap}
+use Rattle.mit_files.specs.Files.{FileMap}
+use Rattle.mit_path.specs.Choice.{last_below}
+use Rattle.mit_path.specs.Fate.{first_decides}
 use Rattle.mit_ops.specs.Endings.{finished}
 use Rattle.mit_ops.specs.declared.kinds.OpSpec.{OpSpec}
 use Rattle.mit_ops.specs.declared.kinds.OpSpec.TheVariants.{Copy}
@@ -10,8 +12,6 @@ use Rattle.mit_ops.specs.declared.leave.Leave.{Leave}
 use Rattle.mit_ops.specs.declared.leave.Leave.TheVariants.{Branch, End, Jump}
 use Rattle.mit_ops.specs.declared.routes.Route.{Route}
 use Rattle.mit_ops.specs.declared.routes.Route.TheVariants.{Forward, Gather}
-use Rattle.mit_path.specs.Choice.{last_below}
-use Rattle.mit_path.specs.Fate.{first_decides}
 use Rattle.mit_plan.specs.Held.{Part, ok}
 use Rattle.mit_plan.specs.Meant.{writes_of}
 use Rattle.mit_plan.specs.Plans.{PlanOf, numbers_where}

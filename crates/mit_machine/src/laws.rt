@@ -16,7 +16,7 @@ ghost use Rattle.mit_machine.specs.State.{Action, Machine, State, after, first_s
 use mit_path::laws::{
     chosen_is_sent_law, last_place_law, longer_view_law, superseded_law, undecided_fate_law,
 };
-use mit_plan::laws::{longer_path_law, parts_law, path_stops_law, sums_law};
+use mit_plan_laws::laws::{longer_path_law, parts_law, path_stops_law, sums_law};
 
 /// The first state is valid, each action that is offered leads to a valid state, and so does each list of picks. What is
 /// released never falls, and reaches no further than the window. In a valid state an operator was polled at a place only

@@ -4,7 +4,7 @@ use Rattle.std.specs.Prelude.{option_and_then, option_map}
 use Rattle.std.specs.List.{range_with_len}
 use Rattle.std.proofs.lemmas.List.{append-nil}
 use Rattle.mit_rows.specs.Bags.{BagOf, IsBag, RowOf, all_rows, bag_of, bag_sum}
-use Rattle.mit_world.specs.Files.{FileMap}
+use Rattle.mit_files.specs.Files.{FileMap}
 use Rattle.mit_ops.specs.Answers.{at_row, over}
 use Rattle.mit_ops.specs.Operators.{captured, whole}
 use Rattle.mit_ops.specs.declared.kinds.OpSpec.TheVariants as op

@@ -6,7 +6,7 @@ use Rattle.std.proofs.lemmas.Bool.{le-ltb, lt-ltb}
 use Rattle.std.proofs.lemmas.List.{get_or_append_left, get_or_push, length_push, take_all, take_at}
 use Rattle.std.proofs.lemmas.List.Sums.{sum_by_push}
 use Rattle.mit_rows.specs.Bags.{bag_sum}
-use Rattle.mit_shelf.specs.Printed.{Write}
+use Rattle.mit_csv.specs.Printed.{Write}
 use Rattle.mit_ops.specs.Endings.{Ending, finished, stopped, truth_in}
 use Rattle.mit_ops.specs.declared.faults.FaultKind.TheVariants.{DecisionLimit}
 use Rattle.mit_ops.specs.declared.faults.ScriptFault.{ScriptFault}
@@ -23,8 +23,8 @@ use Rattle.mit_plan.specs.Paths.{next_of}
 use Rattle.mit_plan.specs.Plans.{PlanOf, block_at, op_at}
 use Rattle.mit_plan.specs.Sums.{bag_at}
 use Rattle.mit_plan.specs.Valid.{NamesBlocks, is_branch, last_of}
-use Rattle.mit_meaning.proofs.Good.{Good, OneOperator, Stands}
 use Rattle.mit_ssa.specs.Reaching.{IsBlockOf, Reaching}
+use Rattle.mit_meaning.proofs.Good.{Good, OneOperator, Stands}
 use Rattle.mit_meaning.proofs.PlanLaws.{PlanLaws}
 use Rattle.mit_meaning.proofs.OneBlock.{Behind, Comes, LastDecides, PlaceFacts, Ran, block_comes, block_decides, count_there}
 

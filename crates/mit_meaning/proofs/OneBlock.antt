@@ -4,7 +4,7 @@ use Rattle.std.specs.Prelude.{filter_map, option_and_then}
 use Rattle.std.specs.List.{cons_option, range_with_len}
 use Rattle.std.proofs.lemmas.List.{append-nil, append_assoc, get_or_push, length_push}
 use Rattle.mit_rows.specs.Bags.{BagOf}
-use Rattle.mit_shelf.specs.Printed.{Write}
+use Rattle.mit_csv.specs.Printed.{Write}
 use Rattle.mit_ops.specs.Answers.{BagOrFault}
 use Rattle.mit_ops.specs.Operators.{name_written, whole}
 use Rattle.mit_ops.specs.declared.faults.OpFault.{OpFault}
@@ -23,8 +23,8 @@ use Rattle.mit_plan.specs.Plans.{block_at, is_phi, op_at}
 use Rattle.mit_plan.specs.Sums.{TakesBags, bag_at, spec_at}
 use Rattle.mit_plan.specs.Valid.{last_of}
 use Rattle.mit_plan.specs.declared.plan.PlanOp.{PlanOp}
-use Rattle.mit_meaning.proofs.Good.{Good, IsPair, OneOperator, stored}
 use Rattle.mit_ssa.specs.Reaching.{IsBlockOf, IsDecided, IsPhi, IsStep, Reaching, no_step}
+use Rattle.mit_meaning.proofs.Good.{Good, IsPair, OneOperator, stored}
 use Rattle.mit_meaning.proofs.Copies.{taken_bag, whole_copy}
 use Rattle.mit_meaning.proofs.PlanLaws.{PlanLaws}
 

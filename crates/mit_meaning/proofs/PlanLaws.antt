@@ -2,7 +2,7 @@
 use Rattle.std.proofs.Common.{◌≡◌, ◌<◌, ◌+◌, ◌*◌, ◌++◌, ℕ, List, length, Some, Ok}
 use Rattle.std.specs.Prelude.{filter_map}
 use Rattle.mit_rows.specs.Bags.{BagOf, IsBag, RowOf, bag_of}
-use Rattle.mit_world.specs.Files.{FileMap}
+use Rattle.mit_files.specs.Files.{FileMap}
 use Rattle.mit_expr.specs.declared.expr.Expr.{Expr}
 use Rattle.mit_ops.specs.Operators.{name_written, whole}
 use Rattle.mit_ops.specs.declared.kinds.OpSpec.TheVariants as op

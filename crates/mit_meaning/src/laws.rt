@@ -1,18 +1,18 @@
 //! The law of what the plans of scripts mean. A call does nothing: its caller learns what it ensures.
 ghost use Rattle.std.specs.Prelude.{◌≡◌, ◌<◌, ℕ, List, Ok};
-ghost use Rattle.mit_world.specs.Files.{FileMap};
+ghost use Rattle.mit_files.specs.Files.{FileMap};
 ghost use Rattle.mit_ops.specs.declared.types.VarType.{VarType};
-ghost use Rattle.mit_plan.specs.Meant.{meant};
 ghost use Rattle.mit_script.specs.Accepted.{checked};
 ghost use Rattle.mit_script.specs.Execution.{exec};
 ghost use Rattle.mit_script.specs.Trees.{IsFormed};
 ghost use Rattle.mit_script.specs.declared.tree.Script.{Script};
+ghost use Rattle.mit_plan.specs.Meant.{meant};
 ghost use Rattle.mit_ssa.specs.PlanFor.{plan_for};
 
+use mit_bags::laws::bags_are_sorted_lists;
 use mit_cfg::laws::walk_law;
 use mit_path::laws::last_place_law;
-use mit_plan::laws::{more_places_law, parts_law, sums_law};
-use mit_rows::laws::bags_are_sorted_lists;
+use mit_plan_laws::laws::{more_places_law, parts_law, sums_law};
 use mit_ssa::laws::{definitions_law, reaching_law, structure_law, types_law};
 
 /// The plan of an accepted script means what the script does: over all files, for every limit of decisions and cut into any

@@ -9,8 +9,3 @@ pub mod EachRow
 pub mod Totals
 pub mod Operators
 pub mod Parts
-pub mod KeyStored
-pub mod KeyLaws
-pub mod AnswerStored
-pub mod Stops
-pub mod TotalStored

@@ -5,9 +5,9 @@ use Rattle.mit_rows.specs.Bags.{RowOf}
 use Rattle.mit_rows.specs.declared.value.ColType.{ColType}
 use Rattle.mit_rows.specs.declared.value.Value.{Value}
 use Rattle.mit_rows.specs.declared.value.Value.TheVariants.{Int, Text}
-use Rattle.mit_world.specs.Files.{FileMap}
-use Rattle.mit_shelf.specs.Names.{is_legal}
-use Rattle.mit_shelf.specs.Rows.{rows_of}
+use Rattle.mit_files.specs.Files.{FileMap}
+use Rattle.mit_files.specs.Names.{is_legal}
+use Rattle.mit_csv.specs.Rows.{rows_of}
 use Rattle.mit_expr.specs.Values.{ValueOrFault, faults, gives, value_in, within}
 use Rattle.mit_ops.specs.Answers.{BagOrFault, RowsOrKind}
 use Rattle.mit_ops.specs.EachRow.{filtered, flattened, given, kind_of_fault, row_of_exprs}

@@ -3,7 +3,7 @@ use Rattle.std.specs.Prelude.{◌≡◌, ◌≤◌, ℕ, zero, suc, List, [], �
 use Rattle.std.specs.List.{All, AllZip}
 use Rattle.mit_rows.specs.Bags.{RowOf, bag_of}
 use Rattle.mit_rows.specs.declared.value.ColType.{ColType}
-use Rattle.mit_world.specs.Files.{FileMap}
+use Rattle.mit_files.specs.Files.{FileMap}
 use Rattle.mit_expr.specs.Types.{type_of_value}
 use Rattle.mit_ops.specs.Answers.{BagOrFault, both}
 use Rattle.mit_ops.specs.Kinds.{bag_inputs_of}

@@ -4,7 +4,7 @@ ghost use Rattle.mit_script.specs.Grammar.{IsSpelled};
 ghost use Rattle.mit_script.specs.declared.tree.Script.{Script};
 ghost use Rattle.mit_parse.specs.Places.{IsRefusedAt};
 
-use mit_script::laws::{reading_law, spelling_law};
+use mit_grammar::laws::{reading_law, spelling_law};
 
 /// A text spells one script, or is refused at one place, and never both.
 pub fn one_reading()

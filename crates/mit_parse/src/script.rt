@@ -10,9 +10,9 @@ ghost use Rattle.mit_parse.specs.Places.{TellsRefusal, start_of};
 
 use crate::stmts::read_script;
 use crate::stop::{ParseStop, Stop};
+use mit_grammar::laws::{formed_law, reading_law};
 use mit_lex::{LexStop, Token, tokens};
 use mit_script::Script;
-use mit_script::laws::{formed_law, reading_law};
 use std::alloc::Global;
 
 /// The last so many tokens.

@@ -10,8 +10,4 @@ pub mod Held
 pub mod Meant
 pub mod Explained
 pub mod Sums
-pub mod Deciding
-pub mod Jumping
-pub mod Searched
-pub mod Passed
-pub mod Inferred
+pub mod Standing

@@ -3,12 +3,10 @@
 
 mod bounds;
 mod index;
-pub mod laws;
 mod plan;
 mod print;
 mod report;
 mod settings;
-mod valid;
 
 pub use bounds::bound;
 pub use plan::{Edge, MAX_EDGES, MAX_OPS, MAX_PLAN_BLOCKS, Plan, PlanBlock, PlanOp};

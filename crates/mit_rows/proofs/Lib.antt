@@ -1,6 +1,2 @@
-pub mod ValueOrder
-pub mod Rising
-pub mod BagOrder
-pub mod MergeFacts
 pub mod DigitFacts
 pub mod FrontFacts

@@ -1,5 +1,4 @@
 pub mod Order
 pub mod Bags
 pub mod Stored
-pub mod Merging
 pub mod Integers

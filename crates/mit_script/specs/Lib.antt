@@ -1,7 +1,5 @@
 pub mod Trees
 pub mod FormedOnce
-pub mod PrintedTokens
-pub mod Printed
 pub mod PrintsBack
 pub mod Accepted
 pub mod Grammar

@@ -1,14 +1,11 @@
-//! The trees of scripts: when a script is formed, how many statements it has, and its printed text.
+//! The trees of scripts: when a script is formed, and how many statements it has. Here stand the definitions of the language: which
+//! tokens spell a script, which scripts are accepted, and what they do.
 #![tactic(auto)]
 
-pub mod laws;
 mod lists;
-mod printed;
-mod printed_tokens;
 mod tree;
 mod typed;
 
 pub use lists::{Args, Name, Names, VarTypes};
-pub use printed::print;
 pub use tree::{Script, Stmt, statements};
 pub use typed::{CheckCode, Typed};

@@ -10,7 +10,7 @@ use Rattle.std.proofs.lemmas.Str.{IsUtf8-from_ascii}
 use Rattle.std.proofs.lemmas.Str.Ascii.{IsAscii-nil}
 use Rattle.std.proofs.lemmas.List.{take_all}
 use Rattle.std.specs.List.{list_all}
-use Rattle.mit_shelf.specs.Names.{begins_name, continues_name, is_legal}
+use Rattle.mit_files.specs.Names.{begins_name, continues_name, is_legal}
 
 -- a name of no byte, and one of too many
 pub none_empty : (name : List ℕ) → length name ≡ 0 → false ≡ is_legal name

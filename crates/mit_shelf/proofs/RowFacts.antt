@@ -7,8 +7,8 @@ use Rattle.csv.specs.Records.{field_at}
 use Rattle.mit_rows.specs.Bags.{RowOf}
 use Rattle.mit_rows.specs.declared.value.ColType.{ColType}
 use Rattle.mit_rows.specs.declared.value.Value.{Value}
+use Rattle.mit_csv.specs.Rows.{field_of, first_row, part_from, part_of, row_of, rows_from, rows_of_part}
 use Rattle.mit_shelf.specs.Adding.{AddsRow}
-use Rattle.mit_shelf.specs.Rows.{field_of, first_row, part_from, part_of, row_of, rows_from, rows_of_part}
 
 -- the field at a place within a record
 pub field_at_is : (fields : List (List ℕ)) (place : ℕ) → place < length fields → field_at fields place ≡ Some (get_or fields place [])

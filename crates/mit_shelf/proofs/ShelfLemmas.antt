@@ -15,7 +15,7 @@ use Rattle.std.specs.declared.cmp.Ordering.TheVariants.{Less, Equal, Greater}
 use Rattle.std.specs.Cmp.{tied_itself}
 use Rattle.std.specs.Cmp.Lexicographic.{nat_list_cmp_total}
 use Rattle.std.specs.FinMap as fin
-use Rattle.mit_world.specs.Files.{FileMap, name_cmp}
+use Rattle.mit_files.specs.Files.{FileMap, name_cmp}
 use Rattle.mit_world.specs.Outside.{ReadsAs}
 use Rattle.mit_shelf.specs.declared.shelf.FetchFault.{FetchFault}
 use Rattle.mit_shelf.specs.declared.shelf.FetchFault.TheVariants.{BadName, NoFile}

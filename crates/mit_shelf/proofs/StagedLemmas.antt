@@ -2,14 +2,14 @@
 use Rattle.std.proofs.Common.{◌≡◌, ℕ, ◌-◌, arith, ◌+◌, ◌<◌, ◌≤◌, true, false, List, [], ◌∷◌, ◌++◌, length, get_or, take, drop, map, refl, sym, subst, ap, ◌∙◌}
 use Rattle.std.proofs.lemmas.List.{drop_all, drop_more, map-append, take-append-drop, take_all, take_more}
 use Rattle.std.specs.FinMap as fin
+use Rattle.std.specs.List.{All}
+use Rattle.std.proofs.lemmas.List.Elements.{All-nil}
 use Rattle.mit_rows.specs.Bags.{BagOf}
-use Rattle.mit_world.specs.Files.{FileMap}
-use Rattle.mit_shelf.specs.Printed.{Write, bag_text, published, published_onto}
+use Rattle.mit_files.specs.Files.{FileMap}
+use Rattle.mit_csv.specs.Printed.{Write, bag_text, published, published_onto}
 use Rattle.mit_shelf.specs.Staged.{Put, is_below, with_put, writes_put}
 use Rattle.mit_shelf.specs.StoredPuts.{IsFirstAbove, Rises, RisesBy, put_of}
 use Rattle.mit_shelf.proofs.PutOrder.{BeginsAbove, all_lower, place_is, rises_front, rises_with}
-use Rattle.std.specs.List.{All}
-use Rattle.std.proofs.lemmas.List.Elements.{All-nil}
 use Rattle.mit_shelf.specs.declared.staged.Put.{Put as Stored}
 
 -- ---- where a put goes

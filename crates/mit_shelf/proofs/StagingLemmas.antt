@@ -9,7 +9,7 @@ use Rattle.std.specs.declared.cmp.Ordering.{Ordering}
 use Rattle.std.specs.declared.cmp.Ordering.TheVariants.{Less, Equal, Greater}
 use Rattle.std.specs.FinMap as fin
 use Rattle.std.specs.FinMap.Entries.{below_all, find, is_sorted}
-use Rattle.mit_world.specs.Files.{FileMap, name_cmp}
+use Rattle.mit_files.specs.Files.{FileMap, name_cmp}
 use Rattle.mit_world.specs.Outside.{Held, stages}
 use Rattle.mit_shelf.specs.Staging.{StagesAfresh, StagesSome, published_in, stages_all}
 

@@ -1,6 +1,4 @@
-pub mod Names
-pub mod Rows
-pub mod Printed
+pub mod Refused
 pub mod Stops
 pub mod Shelf
 pub mod Stored

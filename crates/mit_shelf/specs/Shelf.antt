@@ -3,7 +3,7 @@ use Rattle.std.specs.Prelude.{◌≡◌, ℕ, List, [], ◌∷◌, ◌++◌, Opt
 use Rattle.std.specs.FinMap as fin
 use Rattle.std.specs.Map.{lookup}
 use Rattle.std.specs.Str.{bytes_eq}
-use Rattle.mit_world.specs.Files.{FileMap}
+use Rattle.mit_files.specs.Files.{FileMap}
 use Rattle.mit_shelf.specs.declared.shelf.FetchFault.{FetchFault}
 use Rattle.mit_shelf.specs.declared.shelf.FetchFault.TheVariants.{BadName, NoFile}
 use Rattle.mit_shelf.specs.declared.stop.Stop.{Stop}

@@ -2,7 +2,7 @@
 use Rattle.std.specs.Prelude.{◌≡◌, ℕ, List, [], ◌∷◌, Bool, false, if◌then◌else◌, nat_lt, ◌==◌, ◌&&◌, ◌||◌, map}
 use Rattle.std.specs.List.{list_any}
 use Rattle.mit_rows.specs.Bags.{BagOf}
-use Rattle.mit_shelf.specs.Printed.{Write}
+use Rattle.mit_csv.specs.Printed.{Write}
 
 -- a pair of place and index, and what was written: the name and the bag
 abbrev pub Put : Type 0

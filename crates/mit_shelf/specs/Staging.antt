@@ -1,7 +1,7 @@
 -- Files that are staged one after another.
 use Rattle.std.specs.Prelude.{◌≡◌, ◌<◌, ℕ, List, take, [], ◌∷◌, Option, Some, IfSome, option_map}
 use Rattle.std.specs.FinMap as fin
-use Rattle.mit_world.specs.Files.{FileMap}
+use Rattle.mit_files.specs.Files.{FileMap}
 use Rattle.mit_world.specs.Outside.{Held, stages}
 
 -- each file in turn adds or replaces one name of the staged ones

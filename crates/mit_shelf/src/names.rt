@@ -1,7 +1,7 @@
 //! File names: which bytes are a legal one, and a name that is kept.
-ghost use Rattle.std.specs.Prelude.{◌≡◌, ◌≤◌, length, IfOk};
+ghost use Rattle.std.specs.Prelude.{◌≡◌, IfOk};
 ghost use Rattle.std.specs.List.{list_all};
-ghost use Rattle.mit_shelf.specs.Names.{begins_name as is_first, continues_name as is_later, is_legal};
+ghost use Rattle.mit_files.specs.Names.{begins_name as is_first, continues_name as is_later, is_legal};
 
 use mit_rows::Text;
 use std::alloc::{AllocError, Global};

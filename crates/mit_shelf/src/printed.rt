@@ -1,11 +1,12 @@
 //! The text of a bag: its rows in order, as a file has them.
 ghost use Rattle.std.specs.Prelude.{◌≡◌, ◌++◌, ◌∷◌, [], map, IfOk, OnOk};
 ghost use Rattle.csv.specs.Records.{fields_of, partial_of};
-ghost use Rattle.mit_shelf.specs.Printed.{bag_text, value_text};
+ghost use Rattle.mit_csv.specs.Printed.{bag_text, value_text};
 
 use csv::{ByteRecord, WriterBuilder};
 use itoa::Buffer;
-use mit_rows::{Bag, Row, Value};
+use mit_bags::Bag;
+use mit_rows::{Row, Value};
 use std::alloc::{AllocError, Global};
 
 /// How many bytes a row is expected to take, which only saves time.

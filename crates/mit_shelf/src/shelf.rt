@@ -1,8 +1,8 @@
 //! The shelf of what was read of a folder, which asks for each name once.
 ghost use Rattle.std.specs.Prelude.{◌≡◌, ◌≢◌, ◌≤◌, ◌↔◌, [], Some, None, true, false, IfErr, IfOk, IfSome, IsSome, OnErr, option_map};
-ghost use Rattle.mit_world.specs.Files.{FileMap};
+ghost use Rattle.mit_files.specs.Files.{FileMap};
+ghost use Rattle.mit_files.specs.Names.{is_legal};
 ghost use Rattle.mit_world.specs.Outside.{AsksAtMost, Rose};
-ghost use Rattle.mit_shelf.specs.Names.{is_legal};
 ghost use Rattle.mit_shelf.specs.Stops.{IfFolder};
 ghost use Rattle.mit_shelf.specs.Stored.{KeepsLast};
 ghost use Rattle.mit_shelf.specs.Shelf.{Agrees, FetchesAs, bytes_at, kept, kept_bytes};

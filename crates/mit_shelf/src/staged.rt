@@ -1,11 +1,11 @@
 //! The writes of a run until they are its files.
 ghost use Rattle.std.specs.Prelude.{◌≡◌, [], IfOk, OnErr, OnOk};
-ghost use Rattle.mit_shelf.specs.Printed.{published};
+ghost use Rattle.mit_csv.specs.Printed.{published};
 ghost use Rattle.mit_shelf.specs.Staged.{IsFree, is_below, with_put, writes_put};
 ghost use Rattle.mit_shelf.specs.StoredPuts.{IsFirstAbove, RisesBy};
 
 use crate::printed::print_rows;
-use mit_rows::Bag;
+use mit_bags::Bag;
 use mit_world::Files;
 use std::alloc::{AllocError, Global};
 use std::marker::Model;

@@ -7,9 +7,9 @@ use Rattle.std.proofs.lemmas.List.Elements.{All-cons, All-head, All-nil}
 use Rattle.std.proofs.lemmas.List.Folds.{list_all-append}
 use Rattle.mit_rows.specs.Bags.{BagOf, RowOf}
 use Rattle.mit_rows.specs.declared.value.Value.{Value}
-use Rattle.mit_expr.specs.Types.{type_of_value}
 use Rattle.mit_rows.specs.declared.value.ColType.{ColType}
-use Rattle.mit_world.specs.Files.{FileMap}
+use Rattle.mit_files.specs.Files.{FileMap}
+use Rattle.mit_expr.specs.Types.{type_of_value}
 use Rattle.mit_ops.specs.Kinds.{bag_inputs_of, kind_of}
 use Rattle.mit_ops.specs.Operators.{bags_in, whole}
 use Rattle.mit_ops.specs.Parts.{FitsAs, HaveColumns, StandsIn, input_columns}

@@ -1,7 +1,7 @@
 -- Calls of the folder, one after another.
 use Rattle.std.proofs.Common.{◌≡◌, ◌∙◌, ◌≤◌, ℕ, Option, Some, None, Result, Ok, Err, arith, refl, subst}
 use Rattle.std.specs.Prelude.{IfErr, IfSome}
-use Rattle.mit_world.specs.Files.{FileMap}
+use Rattle.mit_files.specs.Files.{FileMap}
 use Rattle.mit_world.specs.Outside.{Rose}
 use Rattle.mit_shelf.specs.Shelf.{Agrees, Kept}
 use Rattle.mit_shelf.specs.Stops.{IfFolder}

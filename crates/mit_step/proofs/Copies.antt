@@ -3,7 +3,7 @@ use Rattle.std.proofs.Common.{◌≡◌, ◌≤◌, ◌∙◌, ℕ, List, [], �
 use Rattle.std.proofs.lemmas.List.Elements.{All-head, All-tail}
 use Rattle.mit_rows.specs.Bags.{BagOf, IsBag, RowOf, all_rows, bag_of}
 use Rattle.mit_rows.specs.declared.value.Value.{Value}
-use Rattle.mit_world.specs.Files.{FileMap}
+use Rattle.mit_files.specs.Files.{FileMap}
 use Rattle.mit_ops.specs.Kinds.{bag_inputs_of}
 use Rattle.mit_ops.specs.Operators.{whole}
 use Rattle.mit_ops.specs.declared.kinds.OpSpec.{OpSpec}

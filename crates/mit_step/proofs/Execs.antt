@@ -1,7 +1,7 @@
 -- What statements do, by their kind, and how many they are.
 use Rattle.std.proofs.Common.{◌≡◌, ◌∙◌, ◌+◌, ℕ, List, [], ◌∷◌, ap, arith, map, refl, subst, sum, sym}
 use Rattle.std.proofs.lemmas.Grind.{common_steps}
-use Rattle.mit_world.specs.Files.{FileMap}
+use Rattle.mit_files.specs.Files.{FileMap}
 use Rattle.mit_ops.specs.declared.kinds.OpSpec.{OpSpec}
 use Rattle.mit_script.specs.Execution.{Doing, counts, exec_of, exec_step}
 use Rattle.mit_script.specs.Trees.{count_of, count_of_all, count_step}

@@ -4,7 +4,7 @@ use Rattle.std.specs.Prelude.{IfOk, MatchResult, option_and_then}
 use Rattle.std.proofs.lemmas.List.{take_all}
 use Rattle.mit_rows.specs.Bags.{BagOf, IsBag, RowOf}
 use Rattle.mit_rows.specs.declared.value.Value.{Value}
-use Rattle.mit_world.specs.Files.{FileMap}
+use Rattle.mit_files.specs.Files.{FileMap}
 use Rattle.mit_shelf.specs.declared.stop.Stop.{Stop}
 use Rattle.mit_shelf.specs.declared.stop.Stop.TheVariants as stop
 use Rattle.mit_expr.specs.declared.expr.Expr.{Expr}

@@ -7,7 +7,7 @@ use Rattle.std.proofs.lemmas.List.Elements.{All-contains_itself}
 use Rattle.std.proofs.lemmas.List.Sorted.{All-permutation, IsPermutation-sym, length_permutation}
 use Rattle.mit_rows.specs.Bags.{BagOf, IsBag, RowOf, all_rows, bag_of, insert_row}
 use Rattle.mit_rows.specs.declared.value.Value.{Value}
-use Rattle.mit_world.specs.Files.{FileMap}
+use Rattle.mit_files.specs.Files.{FileMap}
 use Rattle.mit_ops.specs.Operators.{whole}
 use Rattle.mit_ops.specs.Parts.{Fits, SameBags}
 use Rattle.mit_ops.specs.declared.kinds.OpSpec.{OpSpec}

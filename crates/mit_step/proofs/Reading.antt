@@ -9,11 +9,10 @@ use Rattle.mit_rows.specs.declared.row.TheConstants.{MAX_COLUMNS}
 use Rattle.mit_rows.specs.declared.value.ColType.{ColType}
 use Rattle.mit_rows.specs.declared.value.Value.{Value}
 use Rattle.mit_rows.specs.declared.value.Value.TheVariants as value
-use Rattle.mit_world.specs.Files.{FileMap}
-use Rattle.mit_expr.specs.declared.expr.Expr.{Expr}
-use Rattle.mit_expr.specs.Values.{ValueOrFault, faults, gives, value_in}
-use Rattle.mit_shelf.specs.Names.{is_legal}
-use Rattle.mit_shelf.specs.Rows.{TellsBadRow, rows_of}
+use Rattle.mit_files.specs.Files.{FileMap}
+use Rattle.mit_files.specs.Names.{is_legal}
+use Rattle.mit_csv.specs.Rows.{rows_of}
+use Rattle.mit_shelf.specs.Refused.{TellsBadRow}
 use Rattle.mit_shelf.specs.Shelf.{Agrees, FetchesAs, Kept, bytes_at, kept}
 use Rattle.mit_shelf.specs.declared.rows.RowsRefused.{RowsRefused}
 use Rattle.mit_shelf.specs.declared.rows.RowsRefused.TheVariants as refused
@@ -21,6 +20,8 @@ use Rattle.mit_shelf.specs.declared.shelf.FetchFault.{FetchFault}
 use Rattle.mit_shelf.specs.declared.shelf.FetchFault.TheVariants as fetched
 use Rattle.mit_shelf.specs.declared.stop.Stop.{Stop}
 use Rattle.mit_shelf.specs.declared.stop.Stop.TheVariants as stop
+use Rattle.mit_expr.specs.declared.expr.Expr.{Expr}
+use Rattle.mit_expr.specs.Values.{ValueOrFault, faults, gives, value_in}
 use Rattle.mit_ops.specs.Answers.{BagOrFault, settled}
 use Rattle.mit_ops.specs.EachRow.{kind_of_fault}
 use Rattle.mit_ops.specs.Operators.{captured, file_rows, if_captured, read_rows, whole}

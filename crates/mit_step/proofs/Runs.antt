@@ -1,7 +1,7 @@
 -- Statements and turns, one after another, over all files that agree with the shelf.
 use Rattle.std.proofs.Common.{◌≡◌, ◌∙◌, ◌≤◌, ◌<◌, ◌+◌, ℕ, zero, suc, List, [], ◌∷◌, Bool, true, false, Result, Ok, Err, add-one, ap, arith, drop, drop-cons, get_or, length, map, refl, subst, sym}
 use Rattle.std.specs.Prelude.{OnOk, if◌then◌else◌}
-use Rattle.mit_world.specs.Files.{FileMap}
+use Rattle.mit_files.specs.Files.{FileMap}
 use Rattle.mit_shelf.specs.Shelf.{Agrees, Kept}
 use Rattle.mit_shelf.specs.declared.stop.Stop.{Stop}
 use Rattle.mit_shelf.specs.declared.stop.Stop.TheVariants as stop

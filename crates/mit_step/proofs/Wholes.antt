@@ -4,7 +4,7 @@ use Rattle.std.specs.FinMap as fin
 use Rattle.mit_rows.specs.Bags.{BagOf, RowOf, all_rows, bag_of}
 use Rattle.mit_rows.specs.declared.value.ColType.{ColType}
 use Rattle.mit_rows.specs.declared.value.Value.{Value}
-use Rattle.mit_world.specs.Files.{FileMap}
+use Rattle.mit_files.specs.Files.{FileMap}
 use Rattle.mit_expr.specs.declared.expr.Expr.{Expr}
 use Rattle.mit_expr.specs.Values.{value_in}
 use Rattle.mit_ops.specs.Answers.{BagOrFault, at_row, both, over}

@@ -2,8 +2,9 @@
 ghost use Rattle.std.specs.Prelude.{◌≡◌, ◌≢◌, ◌++◌, [], ◌∷◌, IfNone, IfOk, IfSome, OnOk, length};
 ghost use Rattle.mit_rows.specs.Bags.{IsBag, bag_of};
 
-use mit_rows::laws::{bags_are_rows_in_order, bags_are_sorted_lists};
-use mit_rows::{Bag, Row};
+use mit_bags::Bag;
+use mit_bags::laws::{bags_are_rows_in_order, bags_are_sorted_lists};
+use mit_rows::Row;
 use std::alloc::{AllocError, Global};
 use std::marker::Model;
 

@@ -1,12 +1,12 @@
 //! Where a run stands, and what single statements do to it.
-ghost use Rattle.std.specs.Prelude.{◌≡◌, ◌<◌, ◌≤◌, ◌+◌, ◌^◌, Bool, Ok, true, false, map, length, set, IfErr, IfOk, MatchBool, MatchResult, OnOk};
+ghost use Rattle.std.specs.Prelude.{◌≡◌, ◌<◌, ◌≤◌, Bool, Ok, true, false, map, length, set, IfErr, IfOk, MatchResult, OnOk};
 ghost use Rattle.mit_rows.specs.Bags.{BagOf};
-ghost use Rattle.mit_world.specs.Files.{FileMap};
+ghost use Rattle.mit_files.specs.Files.{FileMap};
 ghost use Rattle.mit_world.specs.Outside.{Rose};
 ghost use Rattle.mit_shelf.specs.Shelf.{Agrees};
 ghost use Rattle.mit_shelf.specs.Stops.{IfFolder};
 ghost use Rattle.mit_ops.specs.Endings.{truth_in};
-ghost use Rattle.mit_ops.specs.Operators.{name_written, whole};
+ghost use Rattle.mit_ops.specs.Operators.{name_written};
 ghost use Rattle.mit_script.specs.Execution.{Ended, ScriptState, after_write, assigned, by_condition, evaluated, goes_on, start};
 ghost use Rattle.mit_script.specs.Trees.{is_write};
 ghost use Rattle.mit_step.specs.Running.{Asks, Faults, LeavesRun, Stands, stop_at};

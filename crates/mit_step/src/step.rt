@@ -1,13 +1,13 @@
 //! A script, run statement by statement.
 ghost use Rattle.std.specs.Prelude.{◌≡◌, ◌≤◌, ◌+◌, List, [], ◌∷◌, length, map, IfErr, IfSome, OnOk};
-ghost use Rattle.mit_lex.specs.declared.limits.TheConstants.{MAX_SCRIPT};
-ghost use Rattle.mit_world.specs.Files.{FileMap};
+ghost use Rattle.mit_files.specs.Files.{FileMap};
 ghost use Rattle.mit_world.specs.Outside.{Rose};
 ghost use Rattle.mit_shelf.specs.Shelf.{Agrees};
 ghost use Rattle.mit_shelf.specs.Stops.{IfFolder};
 ghost use Rattle.mit_ops.specs.declared.types.VarType.{VarType};
+ghost use Rattle.mit_lex.specs.declared.limits.TheConstants.{MAX_SCRIPT};
 ghost use Rattle.mit_script.specs.Accepted.{Known};
-ghost use Rattle.mit_script.specs.Execution.{Doing, ScriptState, by_condition, exec, exec_of, goes_on, in_turn, turns};
+ghost use Rattle.mit_script.specs.Execution.{ScriptState, by_condition, exec, exec_of, goes_on, in_turn, turns};
 ghost use Rattle.mit_script.specs.Trees.{count_of, count_of_all};
 ghost use Rattle.mit_script.specs.declared.tree.Stmt.TheVariants as stmt;
 ghost use Rattle.mit_step.specs.Stepping.{EndsAs};

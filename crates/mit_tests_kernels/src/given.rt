@@ -7,10 +7,11 @@ ghost use Rattle.mit_ops.specs.Kinds.{bag_inputs_of, captures_of};
 ghost use Rattle.mit_ops.specs.Parts.{Fits, HaveColumns};
 ghost use Rattle.mit_ops.specs.Results.{AreBags, IsBagType};
 
+use mit_bags::Bag;
 use mit_expr::{BinOp, Expr};
 use mit_kernel::Finished;
 use mit_ops::{Agg, ColTypes, Columns, Exprs, Flat, OpSpec, VarType, result_type};
-use mit_rows::{Bag, ColType, MAX_COLUMNS, Row, Value};
+use mit_rows::{ColType, MAX_COLUMNS, Row, Value};
 use sqlite_items::Boxed;
 use std::process::Abort;
 

@@ -7,8 +7,8 @@ ghost use Rattle.mit_tests_kernels.specs.Held.{HeldSlot, Keeps};
 
 use crate::given::described;
 use mit_kernel::{Kernel, kit};
+use mit_op_laws::laws::fewer_rows_law;
 use mit_ops::OpSpec;
-use mit_ops::laws::fewer_rows_law;
 use mit_rows::Row;
 use std::alloc::AllocError;
 use std::process::Abort;

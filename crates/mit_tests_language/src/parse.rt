@@ -1,6 +1,6 @@
 //! Scripts that no check accepts. What is read of others, and where a text is refused, stands in the cases of the top call.
 use mit_parse::parse;
-use mit_script::print;
+use mit_print::print;
 use std::process::Abort;
 
 /// Scripts as they are printed: a join of too many columns, a sum in a joined text, and a number of a number.

@@ -1,7 +1,8 @@
 //! Keys of rows and where they lead. The bytes of a text are the numbers of columns: `\0` is the first one.
 use crate::given::{part, row_of};
 use indexmap::IndexMap;
-use mit_ops::{Columns, Key, Route, hash_of, same_key, senders, target, targets};
+use mit_apply::{Key, hash_of, same_key, senders, target, targets};
+use mit_ops::{Columns, Route};
 use mit_rows::{MAX_COLUMNS, Row, cmp_rows};
 use std::cmp::Ordering;
 use std::process::Abort;

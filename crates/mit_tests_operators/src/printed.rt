@@ -1,7 +1,7 @@
 //! The printed text of trees that have no type, which no command prints.
 use crate::given::part;
 use mit_parse::parse;
-use mit_script::print;
+use mit_print::print;
 use std::process::Abort;
 
 /// Statements, and how they are printed.

@@ -1,6 +1,7 @@
 //! Answers and totals, and the order of faults.
 use crate::given::{part, row_of};
-use mit_ops::{Agg, Answer, FaultKind, OpFault, Total, cmp_faults, row_of_exprs};
+use mit_apply::{Answer, Total, cmp_faults, row_of_exprs};
+use mit_ops::{Agg, FaultKind, OpFault};
 use mit_rows::{Row, cmp_rows};
 use std::process::Abort;
 use std::test::Fail;

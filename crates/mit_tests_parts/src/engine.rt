@@ -1,7 +1,7 @@
 //! Picks and runs, with values from outside.
 ghost use Rattle.std.specs.Prelude.{IfOk};
+ghost use Rattle.mit_files.specs.Names.{IsLegal};
 ghost use Rattle.mit_engine.specs.Thin.{IsFormedThin};
-ghost use Rattle.mit_shelf.specs.Names.{IsLegal};
 
 use crate::given::{folder_of, name_of};
 use crate::schedules::{Entry, Steady};

@@ -1,5 +1,5 @@
 //! What the tests are given: files and a folder in memory, and names.
-ghost use Rattle.mit_shelf.specs.Names.{IsLegal};
+ghost use Rattle.mit_files.specs.Names.{IsLegal};
 
 use mit_rows::Text;
 use mit_shelf::{Name, legal_name};

@@ -1,10 +1,10 @@
 //! Names that are kept, and staged bags.
 ghost use Rattle.std.specs.Prelude.{◌≡◌, []};
-ghost use Rattle.mit_shelf.specs.Names.{IsLegal};
 ghost use Rattle.mit_shelf.specs.Staged.{IsFree, with_put};
 
 use crate::given::name_of;
-use mit_rows::{Bag, Row, Value};
+use mit_bags::Bag;
+use mit_rows::{Row, Value};
 use mit_shelf::Staged;
 use std::process::Abort;
 

@@ -5,6 +5,7 @@ use mit_parse::parse;
 use mit_plan::{Edge, Plan, PlanOp};
 use mit_script::Typed;
 use mit_ssa::{PlanStop, plan_of};
+use mit_valid::validate;
 use std::process::Abort;
 
 fn typed(rt: &(impl Abort + AllocGlobal), text: &str) -> Typed {
@@ -113,7 +114,7 @@ fn a_script_has_its_plan(rt: HostRuntime) {
         let plan = plan_of(rt.alloc(), &typed(&rt, script)).expect(&rt, "a plan");
         let found = plan_text(&rt, &plan);
         assert!(&rt; found.as_str() == due, "{script}: {found}");
-        let valid = plan.validate(rt.alloc()).expect(&rt, "memory");
+        let valid = validate(rt.alloc(), &plan).expect(&rt, "memory");
         assert!(&rt; valid, "{script}");
     }
 }

@@ -2,6 +2,7 @@
 use crate::worked::{Lists, block, branch, captured, edge, number, op, phi, plan_of, text, worked};
 use mit_ops::{Leave, OpSpec, Route};
 use mit_plan::{Edge, PlanBlock, PlanOp};
+use mit_valid::validate;
 use std::process::Abort;
 
 fn put<T: Drop>(items: &mut Vec<T>, number: usize, item: T) {
@@ -12,7 +13,7 @@ fn put<T: Drop>(items: &mut Vec<T>, number: usize, item: T) {
 
 fn is_valid(rt: &(impl Abort + AllocGlobal), lists: Lists) -> bool {
     let plan = plan_of(rt, lists);
-    plan.validate(rt.alloc()).expect(rt, "memory")
+    validate(rt.alloc(), &plan).expect(rt, "memory")
 }
 
 /// The plan with a block, an operator or an edge in place of that of this number.

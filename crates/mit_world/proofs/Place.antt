@@ -15,7 +15,7 @@ use Rattle.std.specs.declared.cmp.Ordering.TheVariants.{Less, Equal, Greater}
 use Rattle.std.specs.FinMap as map
 use Rattle.std.specs.FinMap.{find, put, is_sorted}
 use Rattle.std.specs.FinMap.Entries.{is_sorted-put, by_order}
-use Rattle.mit_world.specs.Files.{FileMap, name_cmp}
+use Rattle.mit_files.specs.Files.{FileMap, name_cmp}
 use Rattle.mit_world.specs.Entries.{name_and_bytes, as_pairs}
 
 pub holds : (b : Bool) → b ≡ true → T b

@@ -1,4 +1,3 @@
-pub mod Files
 pub mod Outside
 pub mod Entries
 pub mod Memory

@@ -1,7 +1,7 @@
 -- What folder, outbox and console mean: what they hold, where they tell it, and how their faults are counted.
 use Rattle.std.specs.Prelude.{◌≡◌, ◌⊎◌, ◌≤◌, ◌+◌, ◌-◌, ◌^◌, ◌++◌, ⊤, ℕ, List, [], ◌∷◌, Bool, true, false, Option, Some, None, IfSome, option_map, min}
 use Rattle.std.specs.FinMap as map
-use Rattle.mit_world.specs.Files.{FileMap}
+use Rattle.mit_files.specs.Files.{FileMap}
 use Rattle.mit_world.specs.declared.outside.OutsideStop.{OutsideStop}
 use Rattle.mit_world.specs.declared.outside.OutsideStop.TheVariants.{Failed, NoMemory}
 

@@ -18,7 +18,7 @@ impl Model for Files {
     ghost use Rattle.std.specs.FinMap as map;
     ghost use Rattle.std.specs.FinMap.{is_sorted};
     ghost use Rattle.std.specs.Coded.{coded_ℕ, coded_list};
-    ghost use Rattle.mit_world.specs.Files.{FileMap, name_cmp};
+    ghost use Rattle.mit_files.specs.Files.{FileMap, name_cmp};
     ghost use Rattle.mit_world.specs.Entries.{as_pairs};
 
     ghost Value = { FileMap };

@@ -1,5 +1,5 @@
 ghost use Rattle.std.specs.Prelude.{◌≡◌, ◌≤◌, ◌++◌, ℕ, List, Option, IfOk, IfErr, OnOk, OnErr, option_map};
-ghost use Rattle.mit_world.specs.Files.{FileMap};
+ghost use Rattle.mit_files.specs.Files.{FileMap};
 ghost use Rattle.mit_world.specs.declared.outside.OutsideStop.TheVariants.{NoMemory};
 ghost use Rattle.mit_world.specs.Outside.{AsksAtMost, Continues, Held, IfFailed, ReadsAs, Rose, asks, publishes, stages};
 

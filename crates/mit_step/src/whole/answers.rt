@@ -1,12 +1,12 @@
 //! Answers of operators: what they begin with and how they end as a bag.
 ghost use Rattle.std.specs.Prelude.{◌≡◌, OnOk};
 ghost use Rattle.mit_ops.specs.Answers.{RowsOrKind, at_row, both};
-ghost use Rattle.mit_ops.specs.Stops.{Stops};
+ghost use Rattle.mit_apply.specs.Stops.{Stops};
 ghost use Rattle.mit_step.specs.Stepping.{GivesWhole};
 
 use crate::loose::Loose;
 use crate::whole::WholeStop;
-use mit_ops::{Answer, OpStop};
+use mit_apply::{Answer, OpStop};
 use mit_rows::Row;
 use std::alloc::AllocError;
 

@@ -10,9 +10,10 @@ ghost use Rattle.mit_ops.specs.Totals.{aggregate};
 ghost use Rattle.mit_keyed.specs.Groups.{GivesRow, grouped};
 
 use indexmap::{IndexMap, IndexSet};
+use mit_apply::Answer;
 use mit_keyed::laws::{distinct_law, groups_law};
 use mit_keyed::{add_to_group, answer_groups, answer_kept, keep_once};
-use mit_ops::{Agg, Answer};
+use mit_ops::Agg;
 use mit_rows::Row;
 use std::alloc::{AllocError, Global};
 

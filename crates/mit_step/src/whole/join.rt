@@ -8,9 +8,9 @@ ghost use Rattle.mit_ops.specs.Keys.{key_of};
 ghost use Rattle.mit_keyed.specs.Indexes.{IsIndex};
 
 use crate::loose::Loose;
+use mit_apply::hash_of;
 use mit_keyed::laws::index_law;
 use mit_keyed::{Index, add_joined};
-use mit_ops::hash_of;
 use mit_rows::Row;
 use std::alloc::{AllocError, Global};
 

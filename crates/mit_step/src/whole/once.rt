@@ -11,14 +11,15 @@ ghost use Rattle.mit_ops.specs.EachRow as spec;
 ghost use Rattle.mit_ops.specs.EachRow.{given};
 ghost use Rattle.mit_ops.specs.Operators.{one_value, single};
 ghost use Rattle.mit_ops.specs.Results.{types_of};
-ghost use Rattle.mit_ops.specs.Stops.{Gives, Stops};
 ghost use Rattle.mit_ops.specs.Totals.{total};
+ghost use Rattle.mit_apply.specs.Stops.{Gives, Stops};
 ghost use Rattle.mit_step.specs.Stepping.{GivesWhole};
 
 use crate::loose::Loose;
 use crate::whole::WholeStop;
+use mit_apply::{OpStop, Total, row_of_exprs};
 use mit_expr::Expr;
-use mit_ops::{Agg, FaultKind, OpFault, OpStop, Total, row_of_exprs};
+use mit_ops::{Agg, FaultKind, OpFault};
 use mit_rows::{Row, Value};
 use std::alloc::{AllocError, Global};
 

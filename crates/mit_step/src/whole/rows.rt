@@ -13,10 +13,11 @@ ghost use Rattle.mit_step.specs.Stepping.{GivesWhole};
 use crate::loose::Loose;
 use crate::whole::WholeStop;
 use crate::whole::answers::add_stop;
+use mit_apply::{Answer, OpStop, flatten, keeps, row_of_exprs};
+use mit_bags::laws::bags_are_sorted_lists;
 use mit_expr::Expr;
-use mit_ops::laws::answers_add_up;
-use mit_ops::{Answer, Flat, OpStop, flatten, keeps, row_of_exprs};
-use mit_rows::laws::bags_are_sorted_lists;
+use mit_op_laws::laws::answers_add_up;
+use mit_ops::Flat;
 use mit_rows::{Row, Value};
 use std::alloc::{AllocError, Global};
 

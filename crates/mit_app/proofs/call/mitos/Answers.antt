@@ -1,5 +1,5 @@
 use Rattle.std.proofs.Common.{refl}
-use Rattle.mit_app.specs.Due.{texts}
+use Rattle.mit_words.specs.Words.{texts}
 use Rattle.mit_app.proofs.DueLemmas.{asks_for_script}
 use Rattle.mit_app.proofs.EndLemmas.{answers_halted, answers_usage, answers_well, continues_both, files_after, halted_folder, halted_uncalled, some_files}
 use Rattle.mit_app.proofs.TaskLemmas.{halted_apart}

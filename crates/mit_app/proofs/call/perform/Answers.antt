@@ -1,7 +1,7 @@
 use Rattle.std.proofs.Common.{subst, sym}
+use Rattle.mit_words.specs.declared.words.Task.{Task}
+use Rattle.mit_words.specs.declared.words.Task.TheVariants.{Check, Plan}
 use Rattle.mit_app.specs.Ends.{Ends}
-use Rattle.mit_app.specs.declared.words.Task.{Task}
-use Rattle.mit_app.specs.declared.words.Task.TheVariants.{Check, Plan}
 use Rattle.mit_app.proofs.TaskLemmas.{showing_ends}
 use Rattle.mit_app.proofs.call.perform.Goals as goal
 

@@ -1,11 +1,11 @@
 use Rattle.std.proofs.Common.{ap, sym, ◌∙◌, ◌++◌, [], List, ℕ}
 use Rattle.std.specs.Prelude.{if◌then◌else◌}
-use Rattle.mit_script.specs.Printed.{printed}
 use Rattle.mit_script.specs.Trees.{statements_of}
 use Rattle.mit_script.specs.declared.tree.Script.{Script}
+use Rattle.mit_print.specs.Printed.{printed}
+use Rattle.mit_words.specs.declared.words.Task.TheVariants as task
 use Rattle.mit_app.specs.Due.{Shows}
 use Rattle.mit_app.specs.Lines.{accepted_line}
-use Rattle.mit_app.specs.declared.words.Task.TheVariants as task
 use Rattle.mit_app.proofs.TaskLemmas.{putting_shows}
 use Rattle.mit_app.proofs.check.check_and_show.Goals as goal
 

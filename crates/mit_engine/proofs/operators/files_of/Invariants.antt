@@ -1,6 +1,6 @@
 use Rattle.std.proofs.Common.{◌≡◌, drop}
+use Rattle.mit_csv.specs.Printed.{published, published_onto}
 use Rattle.mit_engine.specs.Operators.{staged_writes}
-use Rattle.mit_shelf.specs.Printed.{published, published_onto}
 use Rattle.mit_engine.proofs.operators.files_of.Given as goal
 
 -- the files so far, with the writes of the statements that are left, are all

@@ -1,9 +1,9 @@
 use Rattle.std.proofs.Common.{◌≡◌, ◌≤◌}
 use Rattle.std.specs.Prelude.{IfSome}
-use Rattle.mit_world.specs.Files.{FileMap}
+use Rattle.mit_files.specs.Files.{FileMap}
+use Rattle.mit_shelf.specs.Shelf.{Agrees}
 use Rattle.mit_engine.specs.Operators.{actions_left}
 use Rattle.mit_engine.specs.Picks.{GrowsBy}
-use Rattle.mit_shelf.specs.Shelf.{Agrees}
 use Rattle.mit_engine.proofs.JobRuns.{Ran}
 use Rattle.mit_engine.proofs.thin.run_thin.Given as goal
 

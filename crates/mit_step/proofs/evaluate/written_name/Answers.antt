@@ -1,5 +1,5 @@
 use Rattle.std.proofs.Common.{[], ◌∙◌, ap, refl, sym}
-use Rattle.mit_shelf.specs.Names.{is_legal}
+use Rattle.mit_files.specs.Names.{is_legal}
 use Rattle.mit_ops.specs.Answers.{RowsOrKind, at_row}
 use Rattle.mit_ops.specs.Operators.{written}
 use Rattle.mit_ops.specs.declared.faults.FaultKind.TheVariants.{BadName}

@@ -1,6 +1,6 @@
 use Rattle.std.proofs.Common.{◌≡◌, ◌∙◌, ◌++◌, ◌∷◌, [], ap, get_or, map, subst, sym}
 use Rattle.std.specs.FinMap as fin
-use Rattle.mit_shelf.specs.Printed.{bag_text}
+use Rattle.mit_csv.specs.Printed.{bag_text}
 use Rattle.mit_ops.specs.Operators.{name_written}
 use Rattle.mit_script.specs.Execution.{after_write, evaluated}
 use Rattle.mit_step.specs.Running.{Faults}

@@ -1,5 +1,5 @@
 use Rattle.std.proofs.Common.{ℕ, List, [], ◌∷◌, inl, refl, rules}
-use Rattle.mit_shelf.specs.Names.{IsLegal}
+use Rattle.mit_files.specs.Names.{IsLegal}
 use Rattle.mit_engine.specs.Thin.{FormedFrom}
 use Rattle.mit_engine.specs.declared.thin.ThinStep.TheVariants as step
 use Rattle.mit_tests_parts.proofs.engine.doubling.Goals as goal

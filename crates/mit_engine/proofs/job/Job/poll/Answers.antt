@@ -3,16 +3,16 @@ use Rattle.std.specs.Prelude.{IfSome, Option, Some, Result, Ok, Err, slice_get, 
 use Rattle.std.proofs.lemmas.List.{get_or-set_same, length-set, set-set}
 use Rattle.std.proofs.lemmas.Option.{slice_get-get_or}
 use Rattle.mit_rows.specs.Bags.{BagOf}
-use Rattle.mit_world.specs.Files.{FileMap}
-use Rattle.mit_engine.specs.Operators.{IsPollReady, JobState, PollGivesBag, after_poll, bags_here, due_bag, feeds_bag, passed_on, polls, with_operators}
+use Rattle.mit_files.specs.Files.{FileMap}
 use Rattle.mit_shelf.specs.Shelf.{Agrees, Kept}
-use Rattle.mit_engine.specs.declared.edges.Edge.{Edge}
+use Rattle.mit_shelf.specs.declared.stop.Stop.{Stop}
+use Rattle.mit_shelf.specs.declared.stop.Stop.TheVariants as stop
 use Rattle.mit_ops.specs.declared.faults.FaultKind.{FaultKind}
+use Rattle.mit_engine.specs.Operators.{IsPollReady, JobState, PollGivesBag, after_poll, bags_here, due_bag, feeds_bag, passed_on, polls, with_operators}
+use Rattle.mit_engine.specs.declared.edges.Edge.{Edge}
 use Rattle.mit_engine.specs.declared.operators.Operator.{Operator}
 use Rattle.mit_engine.specs.declared.operators.Outcome.{Outcome}
 use Rattle.mit_engine.specs.declared.operators.Outcome.TheVariants as outcome
-use Rattle.mit_shelf.specs.declared.stop.Stop.{Stop}
-use Rattle.mit_shelf.specs.declared.stop.Stop.TheVariants as stop
 use Rattle.mit_engine.specs.declared.thin.ThinStep.{ThinStep}
 use Rattle.mit_engine.proofs.ActLemmas.{Polls}
 use Rattle.mit_engine.proofs.JobRuns.{agrees_first}

@@ -6,7 +6,7 @@ use Rattle.mit_rows.specs.Bags.{RowOf}
 use Rattle.mit_rows.specs.declared.row.TheConstants.{MAX_COLUMNS}
 use Rattle.mit_ops.specs.Answers.{over, settled}
 use Rattle.mit_ops.specs.Forms.{once_each}
-use Rattle.mit_ops.specs.TotalStored.{HasValue}
+use Rattle.mit_apply.specs.TotalStored.{HasValue}
 use Rattle.mit_keyed.specs.Groups.{GivesRow, grouped, made_at}
 use Rattle.mit_k_group.specs.declared.running.Running.TheVariants.{Reduce, Distinct, Only, Count, Sum}
 use Rattle.mit_k_group.proofs.Fitting.{answer_is, one_whole}

@@ -3,8 +3,8 @@ use Rattle.std.proofs.lemmas.List.{take_all}
 use Rattle.mit_expr.specs.Types.{type_of_value}
 use Rattle.mit_expr.specs.Values.{within}
 use Rattle.mit_ops.specs.Totals.{total}
-use Rattle.mit_ops.specs.TotalStored.{total_of}
 use Rattle.mit_ops.specs.declared.kinds.Agg.TheVariants as agg
+use Rattle.mit_apply.specs.TotalStored.{total_of}
 use Rattle.mit_step.proofs.Sums.{sum_typed, take_next}
 use Rattle.mit_step.proofs.whole.once.summed.Goals as goal
 

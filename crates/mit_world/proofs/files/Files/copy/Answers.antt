@@ -1,7 +1,7 @@
 use Rattle.std.proofs.Common.{◌∙◌, ap}
 use Rattle.std.specs.FinMap as map
 use Rattle.std.specs.FinMap.{is_sorted}
-use Rattle.mit_world.specs.Files.{name_cmp}
+use Rattle.mit_files.specs.Files.{name_cmp}
 use Rattle.mit_world.proofs.Place.{as_pairs-cloned}
 use Rattle.mit_world.proofs.files.Files.copy.Goals as goal
 

@@ -1,6 +1,6 @@
 use Rattle.std.proofs.Common.{◌≡◌, ◌∙◌, ap}
-use Rattle.mit_world.specs.Files.{name_cmp}
 use Rattle.std.specs.FinMap.{put}
+use Rattle.mit_files.specs.Files.{name_cmp}
 use Rattle.mit_world.specs.Entries.{as_pairs}
 use Rattle.mit_world.proofs.Place.{holds, as_pairs-insert_entry, insert_from_put, sorted_from_put}
 use Rattle.mit_world.proofs.files.Files.put_owned.Goals as goal

@@ -1,0 +1,4 @@
+pub mod ValueOrder
+pub mod Rising
+pub mod BagOrder
+pub mod MergeFacts

@@ -1,5 +1,0 @@
-use Rattle.mit_ops.proofs.FileLaws.{part_without_files, whole_without_files}
-use Rattle.mit_ops.proofs.laws.files_law.Goals as goal
-
-pub returns : goal.returns
-returns c = record { part = part_without_files; whole = whole_without_files }

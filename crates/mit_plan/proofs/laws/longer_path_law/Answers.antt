@@ -1,5 +1,0 @@
-use Rattle.mit_plan.proofs.Choices.{longer_path}
-use Rattle.mit_plan.proofs.laws.longer_path_law.Goals as goal
-
-pub returns : goal.returns
-returns c = longer_path c.longer_view_law.ensures.choice

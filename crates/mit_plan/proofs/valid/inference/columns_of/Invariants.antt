@@ -1,6 +1,0 @@
-use Rattle.std.proofs.Common.{◌≡◌, map, take}
-use Rattle.mit_ops.specs.Results.{scalar}
-use Rattle.mit_plan.proofs.valid.inference.columns_of.Given as goal
-
-abbrev pub invariant-loop-is : goal.invariant-loop-is
-invariant-loop-is l = take l.is-index l.types ≡ map scalar l.columns.items

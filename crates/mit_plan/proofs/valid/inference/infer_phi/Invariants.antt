@@ -1,8 +1,0 @@
-use Rattle.std.proofs.Common.{◌≡◌, None, All, map, take}
-use Rattle.mit_plan.specs.Inferred.{inferred_at}
-use Rattle.mit_plan.specs.Plans.{edge_at}
-use Rattle.mit_plan.proofs.valid.inference.infer_phi.Given as goal
-
-abbrev pub invariant-loop-edge : goal.invariant-loop-edge
-invariant-loop-edge l =
-    All (λ type. type ≡ None) (map (λ number. inferred_at l.inferred (edge_at l.plan number).from) (take l.edge-index l.edge-items))

@@ -1,5 +1,0 @@
-use Rattle.mit_plan.proofs.InferredTypes.{Gone}
-use Rattle.mit_plan.proofs.valid.inferring.infer_each.Given as goal
-
-abbrev pub invariant-loop-op : goal.invariant-loop-op
-invariant-loop-op l = Gone l.plan l.initial.inferred.items l.inferred.items l.goes l.op

@@ -1,6 +1,0 @@
-use Rattle.std.proofs.Common.{◌≡◌, map, take}
-use Rattle.mit_plan.specs.Jumping.{next_after}
-use Rattle.mit_plan.proofs.valid.jumps.stepped.Given as goal
-
-abbrev pub invariant-loop-block : goal.invariant-loop-block
-invariant-loop-block l = l.longer.items ≡ map (next_after l.plan) (take l.block-index l.table)

@@ -1,9 +1,0 @@
-use Rattle.std.proofs.Common.{◌≡◌, ◌<◌, ℕ, length}
-use Rattle.mit_plan.specs.Searched.{landing_of}
-use Rattle.mit_plan.proofs.valid.landing.own_landings.Given as goal
-
-abbrev pub invariant-loop-block : goal.invariant-loop-block
-invariant-loop-block l = record {
-  many : length l.landings.items ≡ l.block;
-  each : (one : ℕ) → one < l.block → landing_of l.landings.items one ≡ one;
-}

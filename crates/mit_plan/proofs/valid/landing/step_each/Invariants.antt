@@ -1,6 +1,0 @@
-use Rattle.std.proofs.Common.{◌≡◌, ◌<◌, ℕ}
-use Rattle.mit_plan.specs.Searched.{jump_step, landing_of}
-use Rattle.mit_plan.proofs.valid.landing.step_each.Given as goal
-
-abbrev pub invariant-loop-block : goal.invariant-loop-block
-invariant-loop-block l = (one : ℕ) → one < l.block → landing_of l.landings one ≡ jump_step l.plan one

@@ -1,9 +1,0 @@
-use Rattle.std.proofs.Common.{◌≡◌, ◌<◌, ℕ, []}
-use Rattle.mit_plan.specs.Passed.{PhiPasses}
-use Rattle.mit_plan.proofs.valid.passing.phis_pass.Given as goal
-
-abbrev pub invariant-loop-op : goal.invariant-loop-op
-invariant-loop-op l = record {
-  none : l.waiting.items ≡ [];
-  pass : (op : ℕ) → op < l.op → PhiPasses l.plan op;
-}

@@ -1,0 +1,14 @@
+pub mod Choices
+pub mod SameParts
+pub mod Histories
+pub mod Upward
+pub mod Stops
+pub mod Collected
+pub mod Shares
+pub mod Sums
+pub mod Writes
+pub mod Scalars
+pub mod Growing
+pub mod Computed
+pub mod Branch
+pub mod Loop

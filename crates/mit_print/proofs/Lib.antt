@@ -1,0 +1,10 @@
+pub mod StmtTexts
+pub mod ListedTexts
+pub mod ExprTexts
+pub mod LineTexts
+pub mod PrintSame
+pub mod PrintNames
+pub mod PrintExprs
+pub mod PrintOps
+pub mod PrintStmts
+pub mod PrintScript

@@ -1,0 +1,2 @@
+pub mod PrintedTokens
+pub mod Printed

@@ -1,0 +1,2 @@
+pub mod ThinScript
+pub mod ThinEndings

@@ -1,0 +1,13 @@
+pub mod Told
+pub mod Jumped
+pub mod Stamped
+pub mod Leading
+pub mod Searches
+pub mod Avoiding
+pub mod Feeding
+pub mod Passes
+pub mod ByInputs
+pub mod ForcedTypes
+pub mod InferredTypes
+pub mod TypesDecided
+pub mod Landings
