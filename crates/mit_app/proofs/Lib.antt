@@ -1,4 +1,5 @@
 pub mod DueLemmas
 pub mod EndLemmas
+pub mod CauseLemmas
 pub mod TaskLemmas
 pub mod PlanLemmas

@@ -4,7 +4,7 @@ use Rattle.std.specs.Prelude.{◌⊎◌, Bool, true, false, if◌then◌else◌,
 use Rattle.std.proofs.lemmas.List.{take_all}
 use Rattle.std.specs.FinMap as fin
 use Rattle.mit_files.specs.Files.{FileMap}
-use Rattle.mit_csv.specs.Printed.{published}
+use Rattle.mit_files.specs.Printed.{published}
 use Rattle.mit_world.specs.Outside.{Held}
 use Rattle.mit_shelf.specs.Shelf.{Agrees, Kept, bytes_at, kept}
 use Rattle.mit_shelf.specs.Staging.{stages_all}
@@ -17,6 +17,7 @@ use Rattle.mit_script.specs.declared.tree.Script.{Script}
 use Rattle.mit_script.specs.declared.typed.Typed.{Typed}
 use Rattle.mit_step.specs.Stepping.{EndsAs}
 use Rattle.mit_step.specs.declared.step.Stepped.{Stepped}
+use Rattle.mit_plan.specs.Plans.{PlanOf}
 use Rattle.mit_plan.specs.Printed.{plan_text}
 use Rattle.mit_ssa.specs.PlanFor.{plan_for}
 use Rattle.mit_engine.specs.Job.{AnswersEnding}
@@ -31,7 +32,7 @@ use Rattle.mit_thin.specs.ThinScript.{thin_steps}
 use Rattle.mit_thin.specs.ThinEndings.{all_of_thin}
 use Rattle.mit_app.specs.Answers.{Gains, Stages}
 use Rattle.mit_app.specs.Due.{Accepted, Blocks, Decisions, Found, IsFound, IsFoundIn, Misspelled, Missing, Publishes, Refused, Rejected, Shows, Tally, ending_verdict, is_too_large, run_verdict, task_verdict, verdict_for}
-use Rattle.mit_app.specs.Ends.{Ends, EndsStaging, FindsAs, IfOutsideFailed, PublishesAs, PutsAs, FindsIn, ReportsTask, RunsAs, ShowsAs, ShowsText, StagesFront, StopsStaging}
+use Rattle.mit_app.specs.Ends.{Ends, EndsStaging, FindsAs, IfOutsideFailed, PlanHalts, PublishesAs, PutsAs, FindsIn, ReportsTask, RunsAs, ShowsAs, ShowsText, StagesFront, StopsStaging}
 use Rattle.mit_app.specs.Lines.{report_line, step_line}
 use Rattle.mit_app.specs.declared.ends.Halt.{Halt}
 use Rattle.mit_app.specs.declared.ends.Halt.TheVariants as halt
@@ -226,6 +227,32 @@ putting_shows task name files written written' text (Err (halt.Failed outside.Fo
 putting_shows task name files written written' text (Err (halt.Failed outside.Outbox)) shows puts = absurd puts
 putting_shows task name files written written' text (Err (halt.Failed outside.Console)) shows puts = tt
 putting_shows task name files written written' text (Err (halt.Failed outside.NoMemory)) shows puts = tt
+
+-- a script that was not had
+pub reading_shows : (task : Task) (name : List ℕ) (files : FileMap) (written : Option (List ℕ)) (h : Halt) (folder : Type 0)
+    → IfOutsideFailed h folder ⊥ ⊥ → FindsAs name files (Err h) → ShowsAs task name files written written (Err h)
+reading_shows task name files written (halt.Refused why) folder cause finds = (finds task, refl)
+reading_shows task name files written (halt.Failed outside.Folder) folder cause finds = refl
+reading_shows task name files written (halt.Failed outside.Outbox) folder cause finds = absurd cause
+reading_shows task name files written (halt.Failed outside.Console) folder cause finds = tt
+reading_shows task name files written (halt.Failed outside.NoMemory) folder cause finds = tt
+
+-- a plan that was not printed
+pub planning_shows : (name : List ℕ) (files : FileMap) (written : Option (List ℕ)) (script : Script) (types : List VarType) (h : Halt)
+    → IsFound files name (Accepted script types) → PlanHalts (plan_for script types) h → ShowsAs Plan name files written written (Err h)
+planning_shows name files written script types (halt.Refused why) found halts = ((Accepted script types, found, sym halts), refl)
+planning_shows name files written script types (halt.Failed outside.Folder) found halts = absurd halts
+planning_shows name files written script types (halt.Failed outside.Outbox) found halts = absurd halts
+planning_shows name files written script types (halt.Failed outside.Console) found halts = absurd halts
+planning_shows name files written script types (halt.Failed outside.NoMemory) found halts = tt
+
+-- then nothing failed outside but memory
+pub planning_failed : (plan : PlanOf) (h : Halt) (folder outbox console : Type 0) → PlanHalts plan h → IfOutsideFailed h folder outbox console
+planning_failed plan (halt.Refused why) folder outbox console halts = tt
+planning_failed plan (halt.Failed outside.Folder) folder outbox console halts = absurd halts
+planning_failed plan (halt.Failed outside.Outbox) folder outbox console halts = absurd halts
+planning_failed plan (halt.Failed outside.Console) folder outbox console halts = absurd halts
+planning_failed plan (halt.Failed outside.NoMemory) folder outbox console halts = tt
 
 -- showing a text is how such a task ends
 pub showing_ends : {O : Type 0} (held : O → Option Held) (task : Task) (name : List ℕ) (files : FileMap) (outbox : O) (written written' : Option (List ℕ)) (result : Result (Unit {0}) Halt)

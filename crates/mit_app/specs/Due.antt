@@ -3,7 +3,7 @@ use Rattle.std.specs.Prelude.{◌≡◌, ⊤, ◌⊎◌, ℕ, ◌*◌, nat_lt, l
 use Rattle.std.specs.Prelude.{Option, Some, None, Ok, Err}
 use Rattle.std.specs.FinMap as fin
 use Rattle.mit_files.specs.Files.{FileMap}
-use Rattle.mit_csv.specs.Printed.{published}
+use Rattle.mit_files.specs.Printed.{published}
 use Rattle.mit_ops.specs.Endings.{Ending, finished, stopped}
 use Rattle.mit_ops.specs.declared.types.VarType.{VarType}
 use Rattle.mit_script.specs.Accepted.{checked}

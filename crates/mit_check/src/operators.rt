@@ -1,8 +1,8 @@
 //! The check of one statement, without those in its blocks.
 ghost use Rattle.std.specs.Prelude.{◌≡◌, ◌+◌, ◌<◌, ◌≤◌, Ok, None, Some, IfOk, IfErr, if◌then◌else◌, is_some, length, not, slice_get, slice_set, true, unwrap_or};
-ghost use Rattle.mit_lex.specs.declared.limits.TheConstants.{MAX_SCRIPT};
 ghost use Rattle.mit_ops.specs.Kinds.{bag_inputs_of};
 ghost use Rattle.mit_ops.specs.Results.{IsBagType, Refuses};
+ghost use Rattle.mit_lex.specs.declared.limits.TheConstants.{MAX_SCRIPT};
 ghost use Rattle.mit_script.specs.Accepted as spec;
 ghost use Rattle.mit_check.specs.Tells.{TellsFault};
 ghost use Rattle.mit_check.specs.Trails.{ExtendsTrail, TellsOperatorRefusal, known_in};
@@ -10,9 +10,10 @@ ghost use Rattle.mit_check.specs.Trails.{ExtendsTrail, TellsOperatorRefusal, kno
 use crate::faults::CheckStop;
 use crate::tables::{Kept, Tables};
 use crate::trail::mark;
-use mit_ops::{MAX_CAPTURES, OpRefused, OpSpec, VarType, result_type};
+use mit_ops::{MAX_CAPTURES, OpRefused, OpSpec, VarType};
 use mit_rows::ColType;
 use mit_script::CheckCode;
+use mit_types::result_type;
 use std::alloc::{AllocError, Global};
 
 /// A statement is refused as its operator is.

@@ -4,7 +4,7 @@ use Rattle.std.specs.Prelude.{suc, ◌⊎◌, Option, Some, None, Ok, Err, Bool,
 use Rattle.std.proofs.lemmas.List.{append-nil, get_or-map, length-map, map-append, map-set}
 use Rattle.mit_rows.specs.Bags.{BagOf, bag_sum}
 use Rattle.mit_files.specs.Files.{FileMap}
-use Rattle.mit_csv.specs.Printed.{Write}
+use Rattle.mit_files.specs.Printed.{Write}
 use Rattle.mit_shelf.specs.Shelf.{Agrees, Kept}
 use Rattle.mit_ops.specs.declared.faults.FaultKind.{FaultKind}
 use Rattle.mit_engine.specs.Thin.{Finished, Faulted, IsFormedThin, after_read, item_put, variable_bag, exec_thin, exec_from}

@@ -5,7 +5,7 @@ use Rattle.std.proofs.lemmas.List.{append-nil}
 use Rattle.std.proofs.lemmas.List.Elements.{All-append}
 use Rattle.std.proofs.lemmas.Option.{slice_get_within}
 use Rattle.mit_files.specs.Files.{FileMap}
-use Rattle.mit_csv.specs.Printed.{published}
+use Rattle.mit_files.specs.Printed.{published}
 use Rattle.mit_shelf.specs.Shelf.{Agrees, Kept}
 use Rattle.mit_ops.specs.declared.faults.FaultKind.{FaultKind}
 use Rattle.mit_engine.specs.Job.{AnswersEnding}

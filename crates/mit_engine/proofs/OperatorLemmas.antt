@@ -5,7 +5,7 @@ use Rattle.std.proofs.lemmas.Bool.{eqb-true, false≢true}
 use Rattle.std.proofs.lemmas.List.{append-nil, append_assoc, at_drop_all, drop_all, get_or-append_right, get_or-drop, length-map, length-take-le}
 use Rattle.mit_rows.specs.Bags.{BagOf}
 use Rattle.mit_files.specs.Files.{FileMap}
-use Rattle.mit_csv.specs.Printed.{published_onto}
+use Rattle.mit_files.specs.Printed.{published_onto}
 use Rattle.mit_engine.specs.Operators.{staged_write, staged_writes}
 use Rattle.mit_engine.specs.Running.{verdict_at, verdict_from, where_any}
 use Rattle.mit_engine.specs.declared.operators.Operator.{Operator}

@@ -1,6 +1,6 @@
 -- How the thin job answers.
 use Rattle.std.specs.Prelude.{◌≡◌, ⊤, List, Result, Ok, Err}
-use Rattle.mit_csv.specs.Printed.{Write, published}
+use Rattle.mit_files.specs.Printed.{Write, published}
 use Rattle.mit_shelf.specs.declared.stop.Stop.{Stop}
 use Rattle.mit_shelf.specs.declared.stop.Stop.TheVariants as stop
 use Rattle.mit_ops.specs.declared.faults.ScriptFault.{ScriptFault}

@@ -5,7 +5,7 @@ use Rattle.mit_rows.specs.Bags.{BagOf, RowOf, bag_of}
 use Rattle.mit_rows.specs.declared.value.ColType.{ColType}
 use Rattle.mit_rows.specs.declared.value.ColType.TheVariants.{Int}
 use Rattle.mit_files.specs.Files.{FileMap}
-use Rattle.mit_csv.specs.Rows.{rows_of}
+use Rattle.mit_files.specs.Rows.{rows_of}
 use Rattle.mit_ops.specs.declared.faults.FaultKind.{FaultKind}
 use Rattle.mit_ops.specs.declared.faults.FaultKind.TheVariants.{NoFile, BadRow}
 

@@ -4,7 +4,7 @@ use Rattle.mit_rows.specs.Bags.{BagOf, bag_sum}
 use Rattle.mit_rows.specs.declared.row.TheConstants.{MAX_COLUMNS}
 use Rattle.mit_files.specs.Files.{FileMap}
 use Rattle.mit_files.specs.Names.{IsLegal}
-use Rattle.mit_csv.specs.Printed.{Write}
+use Rattle.mit_files.specs.Printed.{Write}
 use Rattle.mit_ops.specs.declared.faults.FaultKind.{FaultKind}
 use Rattle.mit_engine.specs.Reads.{integers, read_bag}
 use Rattle.mit_engine.specs.declared.thin.TheConstants.{MAX_STATEMENTS}

@@ -2,7 +2,7 @@
 ghost use Rattle.std.specs.Prelude.{◌≡◌, ◌≤◌, ◌<◌, ◌++◌, true, Result, IfErr, IfOk, IfSome, OnOk, drop, length, slice_get, vec_len};
 ghost use Rattle.mit_rows.specs.Bags.{BagOf};
 ghost use Rattle.mit_files.specs.Files.{FileMap};
-ghost use Rattle.mit_csv.specs.Printed.{published};
+ghost use Rattle.mit_files.specs.Printed.{published};
 ghost use Rattle.mit_world.specs.Outside.{IfFailed, Rose};
 ghost use Rattle.mit_shelf.specs.Shelf.{Agrees};
 ghost use Rattle.mit_ops.specs.declared.faults.FaultKind.{FaultKind};

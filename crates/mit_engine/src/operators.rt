@@ -1,7 +1,7 @@
 //! The operators of a job, one for each statement.
 ghost use Rattle.std.specs.Prelude.{◌≡◌, ◌≤◌, ◌++◌, ◌∷◌, [], true, IfOk, OnOk, drop, length, map, take, vec_len};
 ghost use Rattle.std.specs.FinMap as fin;
-ghost use Rattle.mit_csv.specs.Printed.{bag_text, published, published_onto};
+ghost use Rattle.mit_files.specs.Printed.{bag_text, published, published_onto};
 ghost use Rattle.mit_engine.specs.Operators.{FitsVariables, assigned_after, first_operator, hears, is_pollable, sends_all, sources, sources_of, staged_writes};
 ghost use Rattle.mit_engine.specs.Thin.{IsFormedThin};
 
@@ -140,7 +140,7 @@ pub(crate) fn files_of(
 }
 
 // Writes the file of an operator, where it is a write that has staged its bag.
-#[tactic(auto, unfolding(crate::specs::Operators::staged_writes, mit_csv::specs::Printed::published_onto))]
+#[tactic(auto, unfolding(crate::specs::Operators::staged_writes, mit_files::specs::Printed::published_onto))]
 fn write_staged(
     alloc: Global,
     written: &mut Files,

@@ -2,7 +2,7 @@
 ghost use Rattle.std.specs.Prelude.{◌≡◌, ◌≢◌, ◌≤◌, IfErr, IfSome, length};
 ghost use Rattle.mit_files.specs.Files.{FileMap};
 ghost use Rattle.mit_files.specs.Names.{IsLegal};
-ghost use Rattle.mit_csv.specs.Rows.{rows_of};
+ghost use Rattle.mit_files.specs.Rows.{rows_of};
 ghost use Rattle.mit_world.specs.Outside.{Rose};
 ghost use Rattle.mit_shelf.specs.Shelf.{Agrees};
 ghost use Rattle.mit_shelf.specs.Stops.{IfFolder};

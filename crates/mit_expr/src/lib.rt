@@ -1,8 +1,6 @@
-//! Expressions over a row and captured scalars, and their types. What their values are stands here as a definition.
+//! Expressions over a row and captured scalars. What their types and their values are stands here as definitions.
 #![tactic(auto)]
 
 mod expr;
-mod types;
 
 pub use expr::{BinOp, Call, Expr};
-pub use types::{ExprType, type_of, type_of_value};

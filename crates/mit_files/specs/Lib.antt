@@ -1,2 +1,4 @@
 pub mod Files
 pub mod Names
+pub mod Rows
+pub mod Printed

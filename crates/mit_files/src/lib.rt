@@ -1,2 +1,3 @@
-//! Files of a folder: what they are, and which names they may have. Definitions alone, by which `mit_world` and `mit_shelf` go.
+//! Files: a folder's files and their names, the rows of a file, the text of a bag, and what writes publish. Definitions alone, by which
+//! `mit_world` and `mit_shelf` go.
 #![tactic(auto)]

@@ -4,7 +4,7 @@ use Rattle.std.specs.Prelude.{filter_map, option_and_then}
 use Rattle.std.specs.List.{cons_option, range_with_len}
 use Rattle.std.proofs.lemmas.List.{append-nil, append_assoc, get_or_push, length_push}
 use Rattle.mit_rows.specs.Bags.{BagOf}
-use Rattle.mit_csv.specs.Printed.{Write}
+use Rattle.mit_files.specs.Printed.{Write}
 use Rattle.mit_ops.specs.Answers.{BagOrFault}
 use Rattle.mit_ops.specs.Operators.{name_written, whole}
 use Rattle.mit_ops.specs.declared.faults.OpFault.{OpFault}

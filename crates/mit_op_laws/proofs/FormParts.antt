@@ -5,7 +5,7 @@ use Rattle.std.specs.Ordering.{is_le}
 use Rattle.std.proofs.lemmas.Bool.{eq-eqb}
 use Rattle.std.proofs.lemmas.List.Elements.{All-head, All-tail, filter-append}
 use Rattle.mit_rows.specs.Bags.{RowOf, all_rows, bag_of}
-use Rattle.mit_csv.specs.Rows.{part_from, part_of}
+use Rattle.mit_files.specs.Rows.{part_from, part_of}
 use Rattle.mit_ops.specs.Answers.{BagOrFault, RowsOrKind, at_row, both, fault_cmp, over}
 use Rattle.mit_ops.specs.Forms.{Form, dealt, deal, each_key, each_match, each_row, once, once_each, part_answer, rows_at, whole_answer, with_key}
 use Rattle.mit_ops.specs.Keys.{key_hash, key_of}

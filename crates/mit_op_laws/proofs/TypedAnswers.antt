@@ -5,7 +5,7 @@ use Rattle.std.proofs.lemmas.List.Sorted.{All-permutation}
 use Rattle.std.specs.List.{All, fold, list_any}
 use Rattle.std.specs.List.Sorted.{IsPermutation}
 use Rattle.mit_rows.specs.Bags.{RowOf, all_rows, bag_of}
-use Rattle.mit_csv.specs.Rows.{part_from, part_of}
+use Rattle.mit_files.specs.Rows.{part_from, part_of}
 use Rattle.mit_ops.specs.Answers.{BagOrFault, RowsOrKind, at_row, both, over, settled}
 use Rattle.mit_ops.specs.Forms.{Form, add_key, deal, dealt, each_key, each_match, each_row, once, once_each, part_answer, rows_at, same_row, whole_answer, with_key}
 

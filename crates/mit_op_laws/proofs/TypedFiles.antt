@@ -12,7 +12,7 @@ use Rattle.mit_rows.specs.declared.value.Value.{Value}
 use Rattle.mit_rows.specs.declared.value.Value.TheVariants as value
 use Rattle.mit_files.specs.Names.{is_legal}
 use Rattle.mit_files.specs.Files.{FileMap}
-use Rattle.mit_csv.specs.Rows.{bool_of, field_of, first_row, row_of, rows_from, rows_of, text_of}
+use Rattle.mit_files.specs.Rows.{bool_of, field_of, first_row, row_of, rows_from, rows_of, text_of}
 use Rattle.mit_expr.specs.Types.{type_of_value}
 use Rattle.mit_expr.specs.Values.{ValueOrFault, faults, gives, untyped}
 use Rattle.mit_ops.specs.Operators.{file_rows, read_rows}

@@ -1,2 +1,1 @@
-pub mod TypeLists
 pub mod BagTypes

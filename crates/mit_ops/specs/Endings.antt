@@ -2,7 +2,7 @@
 use Rattle.std.specs.Prelude.{ℕ, List, [], ◌∷◌, Bool, false}
 use Rattle.mit_rows.specs.Bags.{BagOf}
 use Rattle.mit_rows.specs.declared.value.Value.TheVariants.{Bool as Truth}
-use Rattle.mit_csv.specs.Printed.{Write}
+use Rattle.mit_files.specs.Printed.{Write}
 use Rattle.mit_ops.specs.declared.faults.ScriptFault.{ScriptFault}
 
 -- with the writes in order and the number of decisions, or with the first fault

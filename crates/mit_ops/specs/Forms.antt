@@ -4,7 +4,7 @@ use Rattle.std.specs.List.{filter, fold, list_any}
 use Rattle.std.specs.Ordering.{is_eq}
 use Rattle.mit_rows.specs.Bags.{RowOf, all_rows, bag_of}
 use Rattle.mit_rows.specs.Order.{row_cmp}
-use Rattle.mit_csv.specs.Rows.{part_of}
+use Rattle.mit_files.specs.Rows.{part_of}
 use Rattle.mit_ops.specs.Answers.{BagOrFault, RowsOrKind, at_row, over, settled}
 
 pub data Form : Type 0 where

@@ -7,7 +7,7 @@ use Rattle.mit_rows.specs.declared.value.Value.{Value}
 use Rattle.mit_rows.specs.declared.value.Value.TheVariants.{Int, Text}
 use Rattle.mit_files.specs.Files.{FileMap}
 use Rattle.mit_files.specs.Names.{is_legal}
-use Rattle.mit_csv.specs.Rows.{rows_of}
+use Rattle.mit_files.specs.Rows.{rows_of}
 use Rattle.mit_expr.specs.Values.{ValueOrFault, faults, gives, value_in, within}
 use Rattle.mit_ops.specs.Answers.{BagOrFault, RowsOrKind}
 use Rattle.mit_ops.specs.EachRow.{filtered, flattened, given, kind_of_fault, row_of_exprs}

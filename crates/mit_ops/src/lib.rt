@@ -1,4 +1,4 @@
-//! Operators: their kinds, the types of their results, their routes, how a block is left, and faults. What they compute stands here as
+//! Operators: their kinds, their routes, how a block is left, and faults. The types of their results and what they compute stand here as
 //! definitions.
 #![tactic(auto)]
 
@@ -15,4 +15,4 @@ pub use kinds::{Agg, Flat, MAX_RANGE, OpSpec};
 pub use leave::Leave;
 pub use lists::{ColTypes, Columns, Exprs};
 pub use routes::{Route, route_of};
-pub use types::{MAX_CAPTURES, OpRefused, VarType, result_type};
+pub use types::{MAX_CAPTURES, OpRefused, VarType};

@@ -1,7 +1,4 @@
 pub mod Longer
-pub mod Grown
-pub mod Found
-pub mod Walked
 pub mod Chosen
 pub mod Superseded
 pub mod Sent

@@ -2,5 +2,3 @@ pub mod Choice
 pub mod Last
 pub mod Fate
 pub mod Views
-pub mod Kept
-pub mod Walks

@@ -1,10 +1,8 @@
-//! Views of the path: which bag an operator takes at a place, and what becomes of a bag that an operator made.
+//! The path of a run: which bag an operator takes at a place of it, and what becomes of a bag that an operator made, as definitions and
+//! laws.
 #![tactic(auto)]
 
 mod fate;
 pub mod laws;
-mod places;
-mod view;
 
 pub use fate::Fate;
-pub use view::View;

@@ -3,7 +3,7 @@ use Rattle.std.specs.Prelude.{ℕ, ◌-◌, List, [], ◌∷◌, map, flat_map, 
 use Rattle.std.specs.Prelude.{Option, Some, None, option_map, option_and_then, Ok, Err}
 use Rattle.std.specs.List.{range_with_len}
 use Rattle.mit_files.specs.Files.{FileMap}
-use Rattle.mit_csv.specs.Printed.{Write}
+use Rattle.mit_files.specs.Printed.{Write}
 use Rattle.mit_ops.specs.Answers.{BagOrFault, over}
 use Rattle.mit_ops.specs.Endings.{Ending, finished, stopped}
 use Rattle.mit_ops.specs.Operators.{name_written}

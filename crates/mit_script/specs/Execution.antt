@@ -2,7 +2,7 @@
 use Rattle.std.specs.Prelude.{ℕ, zero, suc, ◌+◌, List, [], ◌∷◌, ◌++◌, map, sum, Bool, ◌==◌, if◌then◌else◌, Option, Some, None, Ok, Err}
 use Rattle.mit_rows.specs.Bags.{BagOf}
 use Rattle.mit_files.specs.Files.{FileMap}
-use Rattle.mit_csv.specs.Printed.{Write}
+use Rattle.mit_files.specs.Printed.{Write}
 use Rattle.mit_ops.specs.Answers.{BagOrFault}
 use Rattle.mit_ops.specs.Endings.{Ending, finished, stopped, truth_in}
 use Rattle.mit_ops.specs.Operators.{name_written, whole}

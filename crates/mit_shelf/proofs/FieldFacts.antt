@@ -5,7 +5,7 @@ use Rattle.std.specs.Prelude.{◌&&◌, nat_le}
 use Rattle.std.specs.Str.{IsUtf8, bytes_eq, is_utf8}
 use Rattle.std.proofs.lemmas.Str.{IsUtf8-from_is_utf8, is_utf8-from_IsUtf8}
 use Rattle.std.specs.Str.Parse.{true_text, false_text}
-use Rattle.mit_csv.specs.Rows.{bool_of, text_of}
+use Rattle.mit_files.specs.Rows.{bool_of, text_of}
 
 pub bool_true : (field text : List ℕ) (same : Bool) → text ≡ true_text → same ≡ bytes_eq field text → same ≡ true → ◌≡◌ {A = Option Bool} (Some true) (bool_of field)
 unfolding bool_of

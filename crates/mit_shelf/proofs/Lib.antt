@@ -6,5 +6,3 @@ pub mod RowFacts
 pub mod PrintFacts
 pub mod ShelfLemmas
 pub mod StagingLemmas
-pub mod PutOrder
-pub mod StagedLemmas

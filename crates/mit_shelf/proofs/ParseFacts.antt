@@ -9,7 +9,7 @@ use Rattle.csv.proofs.ReadFacts.{rows-end, rows-more}
 use Rattle.std.specs.Prelude.{Bool, cond, ◌==◌, ◌%◌}
 use Rattle.mit_rows.specs.Bags.{RowOf}
 use Rattle.mit_rows.specs.declared.value.ColType.{ColType}
-use Rattle.mit_csv.specs.Rows.{part_of, row_of, rows_from, rows_of, rows_of_part}
+use Rattle.mit_files.specs.Rows.{part_of, row_of, rows_from, rows_of, rows_of_part}
 use Rattle.mit_shelf.specs.Adding.{AddsRow}
 use Rattle.mit_shelf.proofs.RecordFacts.{records_begin, records_end}
 use Rattle.mit_shelf.proofs.RowFacts.{added, part_none, part_push, refused, rows_bad, rows_many, rows_more, rows_none}

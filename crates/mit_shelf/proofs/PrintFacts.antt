@@ -6,7 +6,7 @@ use Rattle.csv.specs.Writing.{fields_written, has_written, row_text, text_writte
 use Rattle.csv.specs.declared.writer.Writer.{Writer}
 use Rattle.csv.specs.declared.writer.QuoteStyle.TheVariants as style
 use Rattle.mit_rows.specs.Bags.{RowOf}
-use Rattle.mit_csv.specs.Printed.{bag_text, value_text, writer_of_bags}
+use Rattle.mit_files.specs.Printed.{bag_text, value_text, writer_of_bags}
 
 -- the writer stands between two records and has written this text
 pub record Printed {W : Type 0} (contents : W → Option (List ℕ)) (writer : Writer W) (text : List ℕ) : Type 0 where

@@ -7,7 +7,7 @@ use Rattle.csv.specs.Records.{field_at}
 use Rattle.mit_rows.specs.Bags.{RowOf}
 use Rattle.mit_rows.specs.declared.value.ColType.{ColType}
 use Rattle.mit_rows.specs.declared.value.Value.{Value}
-use Rattle.mit_csv.specs.Rows.{field_of, first_row, part_from, part_of, row_of, rows_from, rows_of_part}
+use Rattle.mit_files.specs.Rows.{field_of, first_row, part_from, part_of, row_of, rows_from, rows_of_part}
 use Rattle.mit_shelf.specs.Adding.{AddsRow}
 
 -- the field at a place within a record

@@ -3,6 +3,4 @@ pub mod Stops
 pub mod Shelf
 pub mod Stored
 pub mod Adding
-pub mod Staged
-pub mod StoredPuts
 pub mod Staging

@@ -1,7 +1,7 @@
 //! The fields of a record as the values of a row.
 ghost use Rattle.std.specs.Prelude.{◌≡◌, ◌≤◌, ◌<◌, IfOk, IfSome, is_some, length, option_map};
 ghost use Rattle.csv.specs.Records.{fields_of};
-ghost use Rattle.mit_csv.specs.Rows.{bool_of, field_of, row_of, text_of};
+ghost use Rattle.mit_files.specs.Rows.{bool_of, field_of, row_of, text_of};
 
 use csv::ByteRecord;
 use mit_rows::{ColType, MAX_COLUMNS, MAX_TEXT, Row, Text, TextRefused, Value, parse_int};

@@ -8,7 +8,6 @@ mod names;
 mod printed;
 mod rows;
 mod shelf;
-mod staged;
 mod staging;
 mod stop;
 
@@ -16,6 +15,5 @@ pub use names::{MAX_NAME, Name, legal_name};
 pub use printed::print_rows;
 pub use rows::{RowsRefused, parse_part, parse_rows};
 pub use shelf::{FetchFault, Shelf};
-pub use staged::Staged;
 pub use staging::stage_all;
 pub use stop::Stop;

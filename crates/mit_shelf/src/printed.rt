@@ -1,7 +1,7 @@
 //! The text of a bag: its rows in order, as a file has them.
 ghost use Rattle.std.specs.Prelude.{◌≡◌, ◌++◌, ◌∷◌, [], map, IfOk, OnOk};
 ghost use Rattle.csv.specs.Records.{fields_of, partial_of};
-ghost use Rattle.mit_csv.specs.Printed.{bag_text, value_text};
+ghost use Rattle.mit_files.specs.Printed.{bag_text, value_text};
 
 use csv::{ByteRecord, WriterBuilder};
 use itoa::Buffer;

@@ -1,7 +1,7 @@
 //! The rows of a file, read from its bytes.
 ghost use Rattle.std.specs.Prelude.{◌≡◌, ◌≤◌, ◌<◌, ◌%◌, ◌==◌, Ok, IfOk, IfErr, length};
 ghost use Rattle.csv.specs.Records.{fields_of};
-ghost use Rattle.mit_csv.specs.Rows.{row_of, rows_of, rows_of_part};
+ghost use Rattle.mit_files.specs.Rows.{row_of, rows_of, rows_of_part};
 ghost use Rattle.mit_shelf.specs.Adding.{AddsRow};
 ghost use Rattle.mit_shelf.specs.Refused.{TellsBadRow};
 

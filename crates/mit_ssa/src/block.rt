@@ -5,7 +5,7 @@ use mit_ops::{Leave, OpSpec, Route};
 use std::marker::Model;
 
 /// A `Vec` that contracts see as the list of its elements.
-#[derive(Debug, Drop)]
+#[derive(Drop)]
 pub(crate) struct Listing<T> {
     items: Vec<T>,
 }
@@ -39,7 +39,7 @@ impl<T> Listing<T> {
 }
 
 /// Where an input comes from.
-#[derive(Debug, Drop)]
+#[derive(Drop)]
 pub(crate) struct Source {
     /// The number of an operator in the plan.
     pub(crate) from: u32,
@@ -48,7 +48,7 @@ pub(crate) struct Source {
 }
 
 /// An operator.
-#[derive(Debug, Drop)]
+#[derive(Drop)]
 pub(crate) struct Operator {
     /// The statement that it stands for, from 1; 0 for a phi.
     pub(crate) statement: u32,
@@ -61,7 +61,7 @@ pub(crate) struct Operator {
 }
 
 /// Operators that run one after another, and how the script goes on after them.
-#[derive(Debug, Drop)]
+#[derive(Drop)]
 pub(crate) struct Block {
     pub(crate) operators: Listing<Operator>,
     pub(crate) leave: Leave,

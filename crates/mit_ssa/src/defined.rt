@@ -7,7 +7,7 @@ ghost use Rattle.mit_ssa.specs.Woven.{defining_maybe, with_phis};
 use std::alloc::{AllocError, Global};
 
 /// The operator that defined a variable at a place, if there was one.
-#[derive(Clone, Copy, Debug)]
+#[derive(Clone, Copy)]
 pub(crate) struct Definition {
     pub(crate) variable: u32,
     pub(crate) value: Option<u32>,

@@ -1,6 +1,6 @@
 -- Calls of the folder, one after another.
-use Rattle.std.proofs.Common.{◌≡◌, ◌∙◌, ◌≤◌, ℕ, Option, Some, None, Result, Ok, Err, arith, refl, subst}
-use Rattle.std.specs.Prelude.{IfErr, IfSome}
+use Rattle.std.proofs.Common.{◌≡◌, ◌≢◌, ◌∙◌, ◌≤◌, ℕ, Option, Some, None, Result, Ok, Err, arith, refl, subst, sym}
+use Rattle.std.specs.Prelude.{IfErr, IfSome, OnOk}
 use Rattle.mit_files.specs.Files.{FileMap}
 use Rattle.mit_world.specs.Outside.{Rose}
 use Rattle.mit_shelf.specs.Shelf.{Agrees, Kept}
@@ -41,3 +41,24 @@ failed_more (Ok value) first middle last before failed = tt
 failed_more (Err (stop.Fault fault)) first middle last before failed = tt
 failed_more (Err stop.Folder) first middle last before failed = omega (arith, failed, before)
 failed_more (Err stop.NoMemory) first middle last before failed = tt
+
+-- an answer that is a stop is what is said of the stop
+pub stopped_as : {A E : Type 0} (result : Result A E) (why : E) (P : E → Type 0) → result ≡ Err why → P why → IfErr result P
+stopped_as result why P is fact = subst (λ found. IfErr found P) (sym is) fact
+
+-- the same of a stop since an earlier moment
+pub stopped_more : {A X : Type 0} (result : Result A (Stop X)) (why : Stop X) (first middle last : ℕ) → result ≡ Err why → first ≤ middle → IfFolder why (Rose middle last)
+    → IfErr result (λ stop. IfFolder stop (Rose first last))
+stopped_more {A} {X} result why first middle last is before failed =
+    subst (λ found. IfErr found (λ stop. IfFolder stop (Rose first last))) (sym is) (failed_more {A = A} (Err why) first middle last before failed)
+
+-- a stop says nothing of an answer
+pub no_answer : {A E : Type 0} (result : Result A E) (why : E) (P : Type 0) → result ≡ Err why → OnOk result P
+no_answer result why P is = subst (λ found. OnOk found P) (sym is) tt
+
+-- a call of no folder fails with none
+pub own_failed : {A X : Type 0} (result : Result A (Stop X)) (P : Type 0) → IfErr result (λ why. why ≢ stop.Folder) → IfErr result (λ why. IfFolder why P)
+own_failed (Ok value) P own = tt
+own_failed (Err (stop.Fault fault)) P own = tt
+own_failed (Err stop.Folder) P own = absurd (own refl)
+own_failed (Err stop.NoMemory) P own = tt

@@ -11,9 +11,10 @@ use Rattle.mit_rows.specs.declared.value.Value.{Value}
 use Rattle.mit_rows.specs.declared.value.Value.TheVariants as value
 use Rattle.mit_files.specs.Files.{FileMap}
 use Rattle.mit_files.specs.Names.{is_legal}
-use Rattle.mit_csv.specs.Rows.{rows_of}
+use Rattle.mit_files.specs.Rows.{rows_of}
 use Rattle.mit_shelf.specs.Refused.{TellsBadRow}
 use Rattle.mit_shelf.specs.Shelf.{Agrees, FetchesAs, Kept, bytes_at, kept}
+use Rattle.mit_shelf.specs.Stops.{IfFolder}
 use Rattle.mit_shelf.specs.declared.rows.RowsRefused.{RowsRefused}
 use Rattle.mit_shelf.specs.declared.rows.RowsRefused.TheVariants as refused
 use Rattle.mit_shelf.specs.declared.shelf.FetchFault.{FetchFault}
@@ -125,6 +126,12 @@ read_unnamed spec inputs name types files (stop.Fault kind) is (found, due, same
     (record { at = []; kind = kind_of_fault found }, read_whole spec inputs name types files (faults found) is due, same)
 read_unnamed spec inputs name types files stop.Folder is named = tt
 read_unnamed spec inputs name types files stop.NoMemory is named = tt
+
+-- a name asks no folder
+pub named_own : (due : Option ValueOrFault) (why : Stop FaultKind) (P : Type 0) → NamedBy due (Err why) → IfFolder why P
+named_own due (stop.Fault kind) P named = tt
+named_own due stop.Folder P named = absurd named
+named_own due stop.NoMemory P named = tt
 
 not_wide : {E : Type 0} (large wide : Bool) (a b : E) (found : Result VarType E) (type : VarType) → (if large then Err a else if wide then Err b else found) ≡ Ok type → wide ≡ false
 not_wide true wide a b found type e = cc

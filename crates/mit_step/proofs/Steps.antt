@@ -6,7 +6,7 @@ use Rattle.std.proofs.lemmas.Grind.{get_or-set_at}
 use Rattle.std.specs.FinMap as fin
 use Rattle.mit_rows.specs.Bags.{BagOf}
 use Rattle.mit_files.specs.Files.{FileMap}
-use Rattle.mit_csv.specs.Printed.{Write, bag_text, published_onto}
+use Rattle.mit_files.specs.Printed.{Write, bag_text, published_onto}
 use Rattle.mit_shelf.specs.declared.stop.Stop.{Stop}
 use Rattle.mit_shelf.specs.declared.stop.Stop.TheVariants as stop
 use Rattle.mit_ops.specs.Operators.{name_written, whole}

@@ -3,7 +3,7 @@ use Rattle.std.specs.Prelude.{◌≡◌, ◌≤◌, ⊤, ℕ, List, Option, Some
 use Rattle.mit_rows.specs.Bags.{BagOf}
 use Rattle.mit_rows.specs.declared.value.Value.TheVariants.{Text}
 use Rattle.mit_files.specs.Files.{FileMap}
-use Rattle.mit_csv.specs.Printed.{published}
+use Rattle.mit_files.specs.Printed.{published}
 use Rattle.mit_shelf.specs.Shelf.{Agrees, Kept}
 use Rattle.mit_shelf.specs.declared.stop.Stop.{Stop}
 use Rattle.mit_shelf.specs.declared.stop.Stop.TheVariants as stop

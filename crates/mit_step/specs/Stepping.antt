@@ -2,7 +2,7 @@
 use Rattle.std.specs.Prelude.{◌≡◌, ⊤, List, [], ◌∷◌, ◌++◌, map, Result, Ok, Err}
 use Rattle.mit_rows.specs.Bags.{BagOf}
 use Rattle.mit_rows.specs.declared.value.Value.{Value}
-use Rattle.mit_csv.specs.Printed.{published}
+use Rattle.mit_files.specs.Printed.{published}
 use Rattle.mit_shelf.specs.declared.stop.Stop.{Stop}
 use Rattle.mit_shelf.specs.declared.stop.Stop.TheVariants as stop
 use Rattle.mit_ops.specs.Answers.{BagOrFault}

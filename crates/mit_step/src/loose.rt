@@ -9,7 +9,7 @@ use std::alloc::{AllocError, Global};
 use std::marker::Model;
 
 /// A bag whose rows stand in any order, which contracts see as the bag. Its rows are sorted only where order is seen.
-#[derive(Debug, Drop)]
+#[derive(Drop)]
 pub(crate) struct Loose {
     rows: Vec<Row>,
 }

@@ -10,8 +10,9 @@ ghost use Rattle.mit_ops.specs.Results.{AreBags, IsBagType};
 use mit_bags::Bag;
 use mit_expr::{BinOp, Expr};
 use mit_kernel::Finished;
-use mit_ops::{Agg, ColTypes, Columns, Exprs, Flat, OpSpec, VarType, result_type};
+use mit_ops::{Agg, ColTypes, Columns, Exprs, Flat, OpSpec, VarType};
 use mit_rows::{ColType, MAX_COLUMNS, Row, Value};
+use mit_types::result_type;
 use sqlite_items::Boxed;
 use std::process::Abort;
 

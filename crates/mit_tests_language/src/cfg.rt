@@ -1,7 +1,8 @@
 //! The blocks of scripts. A row is a script, and after an arrow the number of its variables and its blocks: for each step the
 //! number of its statement and, after a `>`, of its target, then how the block is left.
-use mit_cfg::{Block, Cfg, Step, blocks};
+use mit_cfg::{Block, Cfg, Step};
 use mit_check::check;
+use mit_cut::blocks;
 use mit_ops::Leave;
 use mit_parse::parse;
 use std::alloc::{AllocError, Global};

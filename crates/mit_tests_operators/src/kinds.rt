@@ -3,13 +3,11 @@ ghost use Rattle.std.specs.Prelude.{◌↔◌, IsTrue};
 ghost use Rattle.mit_ops.specs.Results.{AreBags, IsBagType};
 
 use crate::given::part;
-use mit_expr::type_of_value;
-use mit_ops::{
-    Agg, ColTypes, Columns, Exprs, OpRefused, OpSpec, Route, VarType, result_type, route_of,
-};
+use mit_ops::{Agg, ColTypes, Columns, Exprs, OpRefused, OpSpec, Route, VarType, route_of};
 use mit_parse::parse;
 use mit_rows::{ColType, MAX_COLUMNS, Value};
 use mit_script::{Stmt, statements};
+use mit_types::{result_type, type_of_value};
 use std::process::Abort;
 
 /// A script in which `w` is a bag of an integer, a text and a truth value, `x` a text, `y` an integer and `z` a truth value.

@@ -1,9 +1,10 @@
 //! What the tests are given: files and a folder in memory, and names.
 ghost use Rattle.mit_files.specs.Names.{IsLegal};
 
+use mit_memory::MemFolder;
 use mit_rows::Text;
 use mit_shelf::{Name, legal_name};
-use mit_world::{Files, MemFolder};
+use mit_world::Files;
 use std::process::Abort;
 
 /// A name and its bytes, with `=` between.

@@ -1,7 +1,8 @@
 //! Views, choice and fate, with values from outside.
 ghost use Rattle.std.specs.Prelude.{◌≡◌};
 
-use mit_path::{Fate, View, laws};
+use mit_path::{Fate, laws};
+use mit_view::View;
 use std::process::Abort;
 
 const BLOCKS: u32 = 8;

@@ -1,8 +1,9 @@
 //! Files, the shelf and the parts of a file, with values from outside.
 use crate::given::{files_of, folder_of};
+use mit_memory::MemFolder;
 use mit_rows::{ColType, Row, Value};
 use mit_shelf::{FetchFault, RowsRefused, Shelf, Stop, parse_part};
-use mit_world::{Files, MemFolder};
+use mit_world::Files;
 use std::alloc::Global;
 use std::process::Abort;
 

@@ -1,11 +1,11 @@
 //! Names that are kept, and staged bags.
 ghost use Rattle.std.specs.Prelude.{◌≡◌, []};
-ghost use Rattle.mit_shelf.specs.Staged.{IsFree, with_put};
+ghost use Rattle.mit_staged.specs.Staged.{IsFree, with_put};
 
 use crate::given::name_of;
 use mit_bags::Bag;
 use mit_rows::{Row, Value};
-use mit_shelf::Staged;
+use mit_staged::Staged;
 use std::process::Abort;
 
 #[test]
@@ -31,7 +31,7 @@ fn put(rt: &impl Abort, staged: &mut Staged, place: u64, index: u32, name: &str,
 }
 
 /// Puts the bags under one name, the last one first, and another one between.
-#[tactic(auto, unfolding(mit_shelf::specs::Staged::with_put))]
+#[tactic(auto, unfolding(mit_staged::specs::Staged::with_put))]
 fn put_falling(rt: &impl Abort, staged: &mut Staged, first: &Bag, last: &Bag)
     requires { staged.old ≡ [] }
 {

@@ -2,13 +2,14 @@
 use crate::applied::Site;
 use crate::meant::meant;
 use mit_check::check;
+use mit_memory::MemFolder;
 use mit_ops::ScriptFault;
 use mit_parse::parse;
 use mit_script::Typed;
 use mit_shelf::{Shelf, Stop};
 use mit_ssa::plan_of;
 use mit_step::step_run;
-use mit_world::{Files, MemFolder};
+use mit_world::Files;
 use std::process::Abort;
 
 /// A script; its files; how many decisions it may take; its writes in order; and how many it takes, or its fault.

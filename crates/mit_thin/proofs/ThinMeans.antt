@@ -13,8 +13,8 @@ use Rattle.mit_rows.specs.declared.value.Value.{Value}
 use Rattle.mit_rows.specs.declared.value.Value.TheVariants as value
 use Rattle.mit_files.specs.Files.{FileMap}
 use Rattle.mit_files.specs.Names.{is_legal}
-use Rattle.mit_csv.specs.Printed.{Write}
-use Rattle.mit_csv.specs.Rows.{rows_of}
+use Rattle.mit_files.specs.Printed.{Write}
+use Rattle.mit_files.specs.Rows.{rows_of}
 use Rattle.mit_expr.specs.Types.{same_type}
 use Rattle.mit_expr.specs.Values as due
 use Rattle.mit_expr.specs.Values.{ValueOrFault, value_in, value_step}

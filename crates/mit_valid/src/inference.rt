@@ -8,9 +8,10 @@ ghost use Rattle.mit_plan.specs.Plans.{edge_at, is_phi, op_at};
 ghost use Rattle.mit_valid.specs.Deciding.{ListsStand};
 ghost use Rattle.mit_valid.specs.Inferred.{AreInferred, GivesType, IsInference, inferred_at, inferred_inputs};
 
-use mit_ops::{OpRefused, OpSpec, VarType, result_type};
+use mit_ops::{OpRefused, OpSpec, VarType};
 use mit_plan::Plan;
 use mit_rows::ColType;
+use mit_types::result_type;
 use std::alloc::{AllocError, Global};
 
 /// What is inferred of an operator's type.

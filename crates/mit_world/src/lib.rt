@@ -3,10 +3,8 @@
 
 mod files;
 mod host;
-mod memory;
 mod outside;
 
 pub use files::{Files, FilesIter};
 pub use host::{HostConsole, HostFolder, HostOutbox};
-pub use memory::{MemConsole, MemFolder, MemOutbox};
 pub use outside::{Console, Folder, Outbox, OutsideStop};

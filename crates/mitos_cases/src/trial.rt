@@ -2,7 +2,8 @@
 use crate::case::{Calls, Case, Kind, Wanted};
 use crate::differences::Differences;
 use mit_app::mitos;
-use mit_world::{Files, MemConsole, MemFolder, MemOutbox};
+use mit_memory::{MemConsole, MemFolder, MemOutbox};
+use mit_world::Files;
 use std::alloc::{AllocError, Global};
 
 /// What a call of this case leaves otherwise than wanted: the empty text where all is as wanted.

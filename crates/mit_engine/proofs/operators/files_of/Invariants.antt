@@ -1,5 +1,5 @@
 use Rattle.std.proofs.Common.{◌≡◌, drop}
-use Rattle.mit_csv.specs.Printed.{published, published_onto}
+use Rattle.mit_files.specs.Printed.{published, published_onto}
 use Rattle.mit_engine.specs.Operators.{staged_writes}
 use Rattle.mit_engine.proofs.operators.files_of.Given as goal
 

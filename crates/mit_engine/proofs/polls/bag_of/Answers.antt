@@ -4,7 +4,7 @@ use Rattle.std.proofs.lemmas.List.{take-replicate}
 use Rattle.mit_rows.specs.declared.row.TheConstants.{MAX_COLUMNS}
 use Rattle.mit_rows.specs.declared.value.ColType.{ColType}
 use Rattle.mit_rows.specs.declared.value.ColType.TheVariants as column
-use Rattle.mit_csv.specs.Rows.{rows_of}
+use Rattle.mit_files.specs.Rows.{rows_of}
 use Rattle.mit_engine.specs.Operators.{PollGivesBag}
 use Rattle.mit_engine.specs.Reads.{bag_of_rows, integers}
 use Rattle.mit_engine.proofs.polls.bag_of.Goals as goal

@@ -4,7 +4,7 @@ use Rattle.std.specs.FinMap as fin
 use Rattle.mit_rows.specs.Bags.{BagOf}
 use Rattle.mit_rows.specs.declared.value.ColType.{ColType}
 use Rattle.mit_files.specs.Files.{FileMap}
-use Rattle.mit_csv.specs.Rows.{rows_of}
+use Rattle.mit_files.specs.Rows.{rows_of}
 use Rattle.mit_shelf.specs.Shelf.{Agrees, FetchesAs, Kept, bytes_at, kept}
 use Rattle.mit_shelf.specs.declared.shelf.FetchFault.{FetchFault}
 use Rattle.mit_shelf.specs.declared.shelf.FetchFault.TheVariants as fetched

@@ -3,7 +3,7 @@ use Rattle.mit_op_laws.proofs.TypedScalars.{one_truth, part_scalar, whole_scalar
 use Rattle.mit_op_laws.proofs.laws.typing_law.Goals as goal
 
 pub returns-clause-given : goal.returns-clause-given
-returns-clause-given c = c.bag_types_law.ensures
+returns-clause-given c = c.bag_types_law.ensures.typed
 
 pub returns-clause-columns : goal.returns-clause-columns
 returns-clause-columns c = part_columns c.bags_are_rows_in_order.ensures.rows c.typing_law.ensures

@@ -1,5 +1,8 @@
-use Rattle.mit_ops.proofs.BagTypes.{typed_fits}
+use Rattle.mit_ops.proofs.BagTypes.{result_fits, typed_fits}
 use Rattle.mit_ops.proofs.laws.bag_types_law.Goals as goal
 
-pub returns : goal.returns
-returns c = typed_fits
+pub returns-clause-results : goal.returns-clause-results
+returns-clause-results c = result_fits
+
+pub returns-clause-typed : goal.returns-clause-typed
+returns-clause-typed c = typed_fits

@@ -1,6 +1,6 @@
 use Rattle.std.proofs.Common.{◌≡◌, [], map, take}
 use Rattle.csv.specs.Records.{fields_of, partial_of}
-use Rattle.mit_csv.specs.Printed.{value_text}
+use Rattle.mit_files.specs.Printed.{value_text}
 use Rattle.mit_shelf.proofs.printed.fill_record.Given as goal
 
 abbrev pub invariant-loop-value : goal.invariant-loop-value

@@ -1,5 +1,5 @@
 use Rattle.std.proofs.Common.{Some, take}
-use Rattle.mit_csv.specs.Printed.{bag_text}
+use Rattle.mit_files.specs.Printed.{bag_text}
 use Rattle.mit_shelf.proofs.PrintFacts.{Printed}
 use Rattle.mit_shelf.proofs.printed.print_rows.Given as goal
 

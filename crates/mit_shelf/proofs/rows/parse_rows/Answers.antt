@@ -1,6 +1,6 @@
 use Rattle.std.proofs.Common.{Global, Vec}
 use Rattle.mit_rows.specs.Bags.{RowOf}
-use Rattle.mit_csv.specs.Rows.{rows_of}
+use Rattle.mit_files.specs.Rows.{rows_of}
 use Rattle.mit_shelf.proofs.RowFacts.{whole_result}
 use Rattle.mit_shelf.proofs.rows.parse_rows.Goals as goal
 

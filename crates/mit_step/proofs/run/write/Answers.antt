@@ -1,10 +1,11 @@
-use Rattle.std.proofs.Common.{◌≡◌, ◌∙◌, ◌++◌, ◌∷◌, [], ap, get_or, map, subst, sym}
+use Rattle.std.proofs.Common.{◌≡◌, ◌∙◌, ◌++◌, ◌∷◌, [], ap, get_or, map, refl, subst, sym}
 use Rattle.std.specs.FinMap as fin
-use Rattle.mit_csv.specs.Printed.{bag_text}
+use Rattle.mit_files.specs.Printed.{bag_text}
 use Rattle.mit_ops.specs.Operators.{name_written}
 use Rattle.mit_script.specs.Execution.{after_write, evaluated}
 use Rattle.mit_step.specs.Running.{Faults}
 use Rattle.mit_step.specs.Typing.{stored_bag}
+use Rattle.mit_step.proofs.Asking.{asks_none}
 use Rattle.mit_step.proofs.Steps.{stop_given, write_stands, written_given}
 use Rattle.mit_step.proofs.run.write.Goals as goal
 
@@ -23,3 +24,51 @@ returns-clause-answer g c = λ files state agrees stands.
       write_stands c.in-Ok.name bag c.in_ok-text.text.items c.put_owned.new.self stands text put,
       written_given files c.args.number c.args.op.now c.args.args.now bag c.in-Ok.name stands (c.in-Ok.ensures.bag files) c.in-Ok.ensures.named,
     )
+
+pub name_of-requires-clause-argued : goal.name_of-requires-clause-argued
+name_of-requires-clause-argued g c = c.requires.argued
+
+pub returns-in-Err-clause-store : goal.returns-in-Err-clause-store
+returns-in-Err-clause-store g c = refl
+
+pub returns-in-Err-clause-kept : goal.returns-in-Err-clause-kept
+returns-in-Err-clause-kept g c = refl
+
+pub returns-in-Err-clause-asks : goal.returns-in-Err-clause-asks
+returns-in-Err-clause-asks g c = asks_none _ _ _
+
+pub returns-in_err-bag-clause-store : goal.returns-in_err-bag-clause-store
+returns-in_err-bag-clause-store g c = refl
+
+pub returns-in_err-bag-clause-kept : goal.returns-in_err-bag-clause-kept
+returns-in_err-bag-clause-kept g c = refl
+
+pub returns-in_err-bag-clause-asks : goal.returns-in_err-bag-clause-asks
+returns-in_err-bag-clause-asks g c = asks_none _ _ _
+
+pub returns-in_err-text-clause-store : goal.returns-in_err-text-clause-store
+returns-in_err-text-clause-store g c = refl
+
+pub returns-in_err-text-clause-kept : goal.returns-in_err-text-clause-kept
+returns-in_err-text-clause-kept g c = refl
+
+pub returns-in_err-text-clause-asks : goal.returns-in_err-text-clause-asks
+returns-in_err-text-clause-asks g c = asks_none _ _ _
+
+pub returns-in_err-put_owned-clause-store : goal.returns-in_err-put_owned-clause-store
+returns-in_err-put_owned-clause-store g c = refl
+
+pub returns-in_err-put_owned-clause-kept : goal.returns-in_err-put_owned-clause-kept
+returns-in_err-put_owned-clause-kept g c = refl
+
+pub returns-in_err-put_owned-clause-asks : goal.returns-in_err-put_owned-clause-asks
+returns-in_err-put_owned-clause-asks g c = asks_none _ _ _
+
+pub returns-clause-store : goal.returns-clause-store
+returns-clause-store g c = refl
+
+pub returns-clause-kept : goal.returns-clause-kept
+returns-clause-kept g c = refl
+
+pub returns-clause-asks : goal.returns-clause-asks
+returns-clause-asks g c = asks_none _ _ _

@@ -3,8 +3,8 @@ use Rattle.std.specs.Prelude.{⊤, if◌then◌else◌, set}
 use Rattle.std.proofs.lemmas.Grind.{common_steps}
 use Rattle.std.proofs.lemmas.List.{drop_all}
 use Rattle.std.proofs.lemmas.Result.{on_ok_weaker}
-use Rattle.mit_lex.specs.declared.limits.TheConstants.{MAX_SCRIPT}
 use Rattle.mit_rows.specs.Bags.{BagOf}
+use Rattle.mit_lex.specs.declared.limits.TheConstants.{MAX_SCRIPT}
 use Rattle.mit_script.specs.Accepted.{with_assigned}
 use Rattle.mit_script.specs.Execution.{Doing, by_condition, counts, exec_of, goes_on, in_turn, turns}
 use Rattle.mit_script.specs.Trees.{count_of_all}
@@ -12,7 +12,7 @@ use Rattle.mit_script.specs.declared.tree.Stmt.{the_lemmas}
 use Rattle.mit_script.specs.declared.tree.Stmt.TheVariants as stmt
 use Rattle.mit_step.specs.Running.{LeavesRun}
 use Rattle.mit_step.specs.Typing.{Argued, IsMade, Ready, StoreHolds, inputs_in}
-use Rattle.mit_step.proofs.Asking.{asks_more}
+use Rattle.mit_step.proofs.Asking.{asks_more, failed_more, no_answer, stopped_as, stopped_more}
 use Rattle.mit_step.proofs.Execs.{count_of-If, count_of-While, exec_of-Assign, exec_of-If, exec_of-Write, exec_of-While}
 use Rattle.mit_step.proofs.Readiness.{ready_assign, ready_first, ready_if, ready_none, ready_while, ready_write}
 use Rattle.mit_step.proofs.Runs.{branch_leaves, entered, here, on_ok, leaves_as, none_does, reached_more, reached_stop, turned_end, turned_fault, turned_more, turned_stop}
@@ -301,3 +301,153 @@ run_while-returns-in_err-run_all-clause-answer g t c =
 
 pub run_while-returns-in_err-run_all-clause-asks : goal.run_while-returns-in_err-run_all-clause-asks
 run_while-returns-in_err-run_all-clause-asks g t c = asks_more c.turns.invariant.asks (asks_more c.decide.ensures.asks c.run_all.ensures.asks)
+
+-- ---- what else holds at each exit
+
+pub run_all-returns-in_err-run_one-clause-holds : goal.run_all-returns-in_err-run_one-clause-holds
+run_all-returns-in_err-run_one-clause-holds g t c =
+    let is : c.from_residual.result ≡ Err c.in_err-run_one.field-0.0 = search rules in
+    λ types known after ready. no_answer c.from_residual.result c.in_err-run_one.field-0.0 _ is
+
+pub run_all-returns-in_err-run_one-clause-sized : goal.run_all-returns-in_err-run_one-clause-sized
+run_all-returns-in_err-run_one-clause-sized g t c =
+    let is : c.from_residual.result ≡ Err c.in_err-run_one.field-0.0 = search rules in
+    no_answer c.from_residual.result c.in_err-run_one.field-0.0 _ is
+
+pub run_all-returns-in_err-run_one-clause-fewer : goal.run_all-returns-in_err-run_one-clause-fewer
+run_all-returns-in_err-run_one-clause-fewer g t c = omega (arith, c.run_one.ensures.fewer, c.loop-stmt.invariant.fewer)
+
+pub run_all-returns-in_err-run_one-clause-failed : goal.run_all-returns-in_err-run_one-clause-failed
+run_all-returns-in_err-run_one-clause-failed g t c =
+    let is : c.from_residual.result ≡ Err c.in_err-run_one.field-0.0 = search rules in
+    stopped_more c.from_residual.result c.in_err-run_one.field-0.0 _ _ _ is c.loop-stmt.invariant.asks.count c.in_err-run_one.ensures.failed
+
+pub run_all-returns-clause-sized : goal.run_all-returns-clause-sized
+run_all-returns-clause-sized g t c = c.loop-stmt.invariant.sized
+
+pub run_all-returns-clause-fewer : goal.run_all-returns-clause-fewer
+run_all-returns-clause-fewer g t c = c.loop-stmt.invariant.fewer
+
+pub run_all-returns-clause-asks : goal.run_all-returns-clause-asks
+run_all-returns-clause-asks g t c = c.loop-stmt.invariant.asks
+
+pub run_one-returns-in_err-decide-in-If-clause-holds : goal.run_one-returns-in_err-decide-in-If-clause-holds
+run_one-returns-in_err-decide-in-If-clause-holds g t c =
+    let is : c.from_residual.result ≡ Err c.in_err-decide-in-If.field-0.0 = search rules in
+    λ types known after ready. no_answer c.from_residual.result c.in_err-decide-in-If.field-0.0 _ is
+
+pub run_one-returns-in_err-decide-in-If-clause-sized : goal.run_one-returns-in_err-decide-in-If-clause-sized
+run_one-returns-in_err-decide-in-If-clause-sized g t c =
+    let is : c.from_residual.result ≡ Err c.in_err-decide-in-If.field-0.0 = search rules in
+    no_answer c.from_residual.result c.in_err-decide-in-If.field-0.0 _ is
+
+pub run_one-returns-in_err-decide-in-If-clause-fewer : goal.run_one-returns-in_err-decide-in-If-clause-fewer
+run_one-returns-in_err-decide-in-If-clause-fewer g t c = c.decide.ensures.fewer
+
+pub run_one-returns-in_err-decide-in-If-clause-asks : goal.run_one-returns-in_err-decide-in-If-clause-asks
+run_one-returns-in_err-decide-in-If-clause-asks g t c = c.decide.ensures.asks
+
+pub run_one-returns-in_err-decide-in-If-clause-failed : goal.run_one-returns-in_err-decide-in-If-clause-failed
+run_one-returns-in_err-decide-in-If-clause-failed g t c =
+    let is : c.from_residual.result ≡ Err c.in_err-decide-in-If.field-0.0 = search rules in
+    stopped_as c.from_residual.result c.in_err-decide-in-If.field-0.0 _ is c.in_err-decide-in-If.ensures.failed
+
+pub run_one-returns-in-Assign-clause-fewer : goal.run_one-returns-in-Assign-clause-fewer
+run_one-returns-in-Assign-clause-fewer g t c = omega (arith, c.assign.ensures.kept)
+
+pub run_one-returns-in-Assign-clause-asks : goal.run_one-returns-in-Assign-clause-asks
+run_one-returns-in-Assign-clause-asks g t c = c.assign.ensures.asks
+
+pub run_one-returns-in-Assign-clause-failed : goal.run_one-returns-in-Assign-clause-failed
+run_one-returns-in-Assign-clause-failed g t c = c.assign.ensures.failed
+
+pub run_one-returns-in-Write-clause-sized : goal.run_one-returns-in-Write-clause-sized
+run_one-returns-in-Write-clause-sized g t c = on_ok c.write.result (ap length c.write.ensures.store)
+
+pub run_one-returns-in-Write-clause-fewer : goal.run_one-returns-in-Write-clause-fewer
+run_one-returns-in-Write-clause-fewer g t c = omega (arith, c.write.ensures.kept)
+
+pub run_one-returns-in-Write-clause-asks : goal.run_one-returns-in-Write-clause-asks
+run_one-returns-in-Write-clause-asks g t c = c.write.ensures.asks
+
+pub run_one-returns-in-Write-clause-failed : goal.run_one-returns-in-Write-clause-failed
+run_one-returns-in-Write-clause-failed g t c = c.write.ensures.failed
+
+pub run_one-returns-then-branch-clause-sized : goal.run_one-returns-then-branch-clause-sized
+run_one-returns-then-branch-clause-sized g t c =
+    on_ok_weaker c.run_all.result (λ (same : length c.run_all.new.run.store ≡ length c.decide.new.run.store). same ∙ ap length c.decide.ensures.store) c.run_all.ensures.sized
+
+pub run_one-returns-then-branch-clause-fewer : goal.run_one-returns-then-branch-clause-fewer
+run_one-returns-then-branch-clause-fewer g t c = omega (arith, c.run_all.ensures.fewer, c.decide.ensures.fewer)
+
+pub run_one-returns-then-branch-clause-failed : goal.run_one-returns-then-branch-clause-failed
+run_one-returns-then-branch-clause-failed g t c = failed_more c.run_all.result _ _ _ c.decide.ensures.asks.count c.run_all.ensures.failed
+
+pub run_one-returns-else-branch-clause-sized : goal.run_one-returns-else-branch-clause-sized
+run_one-returns-else-branch-clause-sized g t c =
+    on_ok_weaker c.run_all-else-branch.result (λ (same : length c.run_all-else-branch.new.run.store ≡ length c.decide.new.run.store). same ∙ ap length c.decide.ensures.store) c.run_all-else-branch.ensures.sized
+
+pub run_one-returns-else-branch-clause-fewer : goal.run_one-returns-else-branch-clause-fewer
+run_one-returns-else-branch-clause-fewer g t c = omega (arith, c.run_all-else-branch.ensures.fewer, c.decide.ensures.fewer)
+
+pub run_one-returns-else-branch-clause-failed : goal.run_one-returns-else-branch-clause-failed
+run_one-returns-else-branch-clause-failed g t c = failed_more c.run_all-else-branch.result _ _ _ c.decide.ensures.asks.count c.run_all-else-branch.ensures.failed
+
+pub run_one-returns-in-While-clause-holds : goal.run_one-returns-in-While-clause-holds
+run_one-returns-in-While-clause-holds g t c = λ types known after ready.
+    c.run_while.ensures.holds types known after
+    (rw (c.as_slice-in-While.ensures, c.as_slice-in-While-2.ensures) (subst (λ s. Ready types known after (s ∷ []) c.args.run.now.store) c.in-While.is ready))
+
+pub run_one-returns-in-While-clause-sized : goal.run_one-returns-in-While-clause-sized
+run_one-returns-in-While-clause-sized g t c = c.run_while.ensures.sized
+
+pub run_one-returns-in-While-clause-fewer : goal.run_one-returns-in-While-clause-fewer
+run_one-returns-in-While-clause-fewer g t c = c.run_while.ensures.fewer
+
+pub run_one-returns-in-While-clause-asks : goal.run_one-returns-in-While-clause-asks
+run_one-returns-in-While-clause-asks g t c = c.run_while.ensures.asks
+
+pub run_one-returns-in-While-clause-failed : goal.run_one-returns-in-While-clause-failed
+run_one-returns-in-While-clause-failed g t c = c.run_while.ensures.failed
+
+pub run_while-returns-in_err-decide-clause-holds : goal.run_while-returns-in_err-decide-clause-holds
+run_while-returns-in_err-decide-clause-holds g t c =
+    let is : c.from_residual.result ≡ Err c.in_err-decide.field-0.0 = search rules in
+    λ types known after ready. no_answer c.from_residual.result c.in_err-decide.field-0.0 _ is
+
+pub run_while-returns-in_err-decide-clause-sized : goal.run_while-returns-in_err-decide-clause-sized
+run_while-returns-in_err-decide-clause-sized g t c =
+    let is : c.from_residual.result ≡ Err c.in_err-decide.field-0.0 = search rules in
+    no_answer c.from_residual.result c.in_err-decide.field-0.0 _ is
+
+pub run_while-returns-in_err-decide-clause-fewer : goal.run_while-returns-in_err-decide-clause-fewer
+run_while-returns-in_err-decide-clause-fewer g t c = omega (arith, c.decide.ensures.fewer, c.turns.invariant.fewer)
+
+pub run_while-returns-in_err-decide-clause-failed : goal.run_while-returns-in_err-decide-clause-failed
+run_while-returns-in_err-decide-clause-failed g t c =
+    let is : c.from_residual.result ≡ Err c.in_err-decide.field-0.0 = search rules in
+    stopped_more c.from_residual.result c.in_err-decide.field-0.0 _ _ _ is c.turns.invariant.asks.count c.in_err-decide.ensures.failed
+
+pub run_while-returns-then-not-branch-clause-sized : goal.run_while-returns-then-not-branch-clause-sized
+run_while-returns-then-not-branch-clause-sized g t c = ap length c.decide.ensures.store ∙ c.turns.invariant.sized
+
+pub run_while-returns-then-not-branch-clause-fewer : goal.run_while-returns-then-not-branch-clause-fewer
+run_while-returns-then-not-branch-clause-fewer g t c = omega (arith, c.decide.ensures.fewer, c.turns.invariant.fewer)
+
+pub run_while-returns-in_err-run_all-clause-holds : goal.run_while-returns-in_err-run_all-clause-holds
+run_while-returns-in_err-run_all-clause-holds g t c =
+    let is : c.from_residual-in_err-run_all.result ≡ Err c.in_err-run_all.field-0.0 = search rules in
+    λ types known after ready. no_answer c.from_residual-in_err-run_all.result c.in_err-run_all.field-0.0 _ is
+
+pub run_while-returns-in_err-run_all-clause-sized : goal.run_while-returns-in_err-run_all-clause-sized
+run_while-returns-in_err-run_all-clause-sized g t c =
+    let is : c.from_residual-in_err-run_all.result ≡ Err c.in_err-run_all.field-0.0 = search rules in
+    no_answer c.from_residual-in_err-run_all.result c.in_err-run_all.field-0.0 _ is
+
+pub run_while-returns-in_err-run_all-clause-fewer : goal.run_while-returns-in_err-run_all-clause-fewer
+run_while-returns-in_err-run_all-clause-fewer g t c = omega (arith, c.run_all.ensures.fewer, c.decide.ensures.fewer, c.turns.invariant.fewer)
+
+pub run_while-returns-in_err-run_all-clause-failed : goal.run_while-returns-in_err-run_all-clause-failed
+run_while-returns-in_err-run_all-clause-failed g t c =
+    let is : c.from_residual-in_err-run_all.result ≡ Err c.in_err-run_all.field-0.0 = search rules in
+    stopped_more c.from_residual-in_err-run_all.result c.in_err-run_all.field-0.0 _ _ _ is (asks_more c.turns.invariant.asks c.decide.ensures.asks).count c.in_err-run_all.ensures.failed

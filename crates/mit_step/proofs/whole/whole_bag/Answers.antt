@@ -1,10 +1,41 @@
-use Rattle.std.proofs.Common.{◌∙◌, List, map, subst, sym}
+use Rattle.std.proofs.Common.{◌∙◌, List, arith, map, subst, sym}
 use Rattle.std.specs.FinMap as fin
 use Rattle.mit_rows.specs.Bags.{BagOf}
 use Rattle.mit_ops.specs.Operators.{whole}
+use Rattle.mit_ops.specs.Parts.{Fits}
 use Rattle.mit_step.specs.Stepping.{GivesWhole, with_captures}
 use Rattle.mit_step.proofs.Orders.{map_none, map_one, map_two}
 use Rattle.mit_step.proofs.whole.whole_bag.Goals as goal
+
+pub of_none-requires-clause-kind : goal.of_none-requires-clause-kind
+of_none-requires-clause-kind c = c.requires.kind.0
+
+pub of_none-requires-clause-count : goal.of_none-requires-clause-count
+of_none-requires-clause-count c = omega (arith, c.requires.count, c.in-empty.len_below)
+
+pub of_none-requires-clause-fits : goal.of_none-requires-clause-fits
+of_none-requires-clause-fits c =
+    subst (λ (bags : List BagOf). Fits c.args.spec.now (with_captures bags c.args.captures.now)) (map_none (λ bag. bag.value) c.args.bags.now c.in-empty.len_below) c.requires.fits
+
+pub of_one-requires-clause-kind : goal.of_one-requires-clause-kind
+of_one-requires-clause-kind c = c.requires.kind.1
+
+pub of_one-requires-clause-count : goal.of_one-requires-clause-count
+of_one-requires-clause-count c = omega (arith, c.requires.count, c.in-len1.len_at_least, c.in-len1.len_below)
+
+pub of_one-requires-clause-fits : goal.of_one-requires-clause-fits
+of_one-requires-clause-fits c =
+    subst (λ (bags : List BagOf). Fits c.args.spec.now (with_captures bags c.args.captures.now))
+    (map_one (λ bag. bag.value) c.args.bags.now c.bag-item.result c.rows.result.now c.in-len1.len_at_least c.in-len1.len_below c.bag-item.is (c.rows.ensures.value ∙ c.deref.ensures)) c.requires.fits
+
+pub of_two-requires-clause-count : goal.of_two-requires-clause-count
+of_two-requires-clause-count c = omega (arith, c.requires.count, c.in-len2.len_at_least, c.in-len2.len_below)
+
+pub of_two-requires-clause-fits : goal.of_two-requires-clause-fits
+of_two-requires-clause-fits c =
+    subst (λ (bags : List BagOf). Fits c.args.spec.now (with_captures bags c.args.captures.now))
+    (map_two (λ bag. bag.value) c.args.bags.now c.left-item.result c.right-item.result c.rows-in-len2.result.now c.rows-in-len2-2.result.now c.in-len2.len_at_least c.in-len2.len_below c.left-item.is c.right-item.is
+    (c.rows-in-len2.ensures.value ∙ c.deref-in-len2.ensures) (c.rows-in-len2-2.ensures.value ∙ c.deref-in-len2-2.ensures)) c.requires.fits
 
 pub returns-in-empty : goal.returns-in-empty
 returns-in-empty c =

@@ -1,5 +1,5 @@
 use Rattle.std.proofs.Common.{◌∙◌, sym, ap, get_or, refl, []}
-use Rattle.mit_csv.specs.Printed as printed
+use Rattle.mit_files.specs.Printed as printed
 use Rattle.mit_step.proofs.Stores.{all_empty}
 use Rattle.mit_step.proofs.run.Run.new.Goals as goal
 

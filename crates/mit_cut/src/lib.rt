@@ -1,0 +1,7 @@
+//! Cutting a script into its blocks.
+#![tactic(auto)]
+
+mod build;
+mod cut;
+
+pub use cut::blocks;

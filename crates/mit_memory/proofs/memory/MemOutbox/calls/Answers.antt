@@ -1,0 +1,5 @@
+use Rattle.mit_memory.proofs.Failures.{failures-none}
+use Rattle.mit_memory.proofs.memory.MemOutbox.calls.Goals as goal
+
+pub returns-clause-none : goal.returns-clause-none
+returns-clause-none c none = rw none (failures-none _)

@@ -1,6 +1,0 @@
-use Rattle.std.proofs.Common.{◌≡◌, ◌∷◌, take}
-use Rattle.mit_path.specs.Walks.{next_among}
-use Rattle.mit_path.proofs.view.View.fate.Given as goal
-
-abbrev pub invariant-loop-sibling : goal.invariant-loop-sibling
-invariant-loop-sibling l = l.dropped ≡ next_among l.self.path (l.source ∷ take l.sibling-index l.siblings) l.from

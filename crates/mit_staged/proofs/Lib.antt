@@ -1,0 +1,2 @@
+pub mod PutOrder
+pub mod StagedLemmas

@@ -1,5 +1,0 @@
-use Rattle.mit_world.proofs.Failures.{failures-none}
-use Rattle.mit_world.proofs.memory.MemOutbox.calls.Goals as goal
-
-pub returns-clause-none : goal.returns-clause-none
-returns-clause-none c none = rw none (failures-none _)
