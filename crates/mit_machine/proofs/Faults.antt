@@ -20,6 +20,7 @@ use Rattle.mit_plan.specs.Plans.{PlanOf, edge_at, edges_to, is_phi, op_at}
 use Rattle.mit_plan.specs.Sums.{AreRouted, TakesBags, bag_at, bag_taken, bags_of}
 use Rattle.mit_plan.specs.Types.{AreTypes, type_at}
 use Rattle.mit_plan.specs.Valid.{InputsHaveEdges, IsValid, RoutesFit}
+use Rattle.mit_plan.specs.Standing.{Names}
 use Rattle.mit_machine.specs.Offers.{all_parts}
 use Rattle.mit_machine.specs.Places.{Reports, is_done, makes}
 use Rattle.mit_machine.specs.State.{Machine}
@@ -27,7 +28,7 @@ use Rattle.mit_machine.proofs.Choosing.{PathLaws, one_edge}
 use Rattle.mit_machine.proofs.FrontInputs.{front_names, input_source, input_there, source_done}
 use Rattle.mit_machine.proofs.Fronts.{IsFront, done_in}
 use Rattle.mit_machine.proofs.Lists.{range_each, range_found}
-use Rattle.mit_machine.proofs.Standing.{LeadsTo, Names, edges_lead, input_is}
+use Rattle.mit_machine.proofs.Standing.{LeadsTo, edges_lead, input_is}
 
 -- ---- answers that are there
 

@@ -6,11 +6,12 @@ use Rattle.mit_plan.specs.Held.{op_of}
 use Rattle.mit_plan.specs.Paths.{IsPath}
 use Rattle.mit_plan.specs.Plans.{edge_at, op_at}
 use Rattle.mit_plan.specs.Valid.{IsValid}
+use Rattle.mit_plan.specs.Standing.{Names}
 use Rattle.mit_machine.specs.Places.{Reports, is_done}
 use Rattle.mit_machine.specs.State.{Machine}
 use Rattle.mit_machine.proofs.Choosing.{IsSource, PathLaws, chosen_source, chosen_there}
 use Rattle.mit_machine.proofs.Fronts.{IsFront}
-use Rattle.mit_machine.proofs.Standing.{Names, names, stands_in}
+use Rattle.mit_machine.proofs.Standing.{names, stands_in}
 
 -- the front's operator, by its number
 pub front_names : (machine : Machine) (reports : Reports) (place index : ℕ) → IsValid machine.job.plan → IsFront machine reports place index

@@ -12,11 +12,12 @@ use Rattle.mit_plan.specs.Meant.{last_block}
 use Rattle.mit_plan.specs.Plans.{PlanOf, block_at, no_block}
 use Rattle.mit_plan.specs.Valid.{IsValid, JumpsEnd, is_branch, is_end, last_of}
 use Rattle.mit_plan.specs.declared.plan.PlanBlock.{PlanBlock}
+use Rattle.mit_plan.specs.Standing.{Names}
 use Rattle.mit_machine.specs.Places.{Reports, front, known, leads_on}
 use Rattle.mit_machine.specs.Runs.{Runs, known_end}
 use Rattle.mit_machine.specs.State.{Machine}
 use Rattle.mit_machine.proofs.Fronts.{done_before, done_in, known_ends}
-use Rattle.mit_machine.proofs.Standing.{Names, names}
+use Rattle.mit_machine.proofs.Standing.{names}
 use Rattle.mit_machine.proofs.WholePaths.{IsRun, run_is}
 
 -- ---- the condition of a branch

@@ -4,18 +4,19 @@ use Rattle.std.specs.Prelude.{◌&&◌, IsSome, nat_le, nat_lt, option_map, slic
 use Rattle.std.specs.List.{filter, list_all, list_any}
 use Rattle.std.proofs.lemmas.Bool.{and_from, cases_lt, eq-eqb, eqb-true, le-leb, lt-ltb, ltb-false, ltb-true}
 use Rattle.std.proofs.lemmas.Option.{slice_get-get_or, slice_get_within}
+use Rattle.mit_path.specs.declared.fate.Fate.TheVariants.{Send}
 use Rattle.mit_ops.specs.Endings.{stopped}
 use Rattle.mit_ops.specs.Routes.{senders_of, targets_of}
 use Rattle.mit_ops.specs.declared.faults.ScriptFault.{ScriptFault}
 use Rattle.mit_ops.specs.declared.routes.Route.{Route}
 use Rattle.mit_ops.specs.declared.routes.Route.TheVariants.{Forward, Gather, Broadcast, ByKey}
-use Rattle.mit_path.specs.declared.fate.Fate.TheVariants.{Send}
 use Rattle.mit_plan.specs.Chosen.{Choice, chosen, input_edges, input_numbers}
 use Rattle.mit_plan.specs.Explained.{Explained}
 use Rattle.mit_plan.specs.Held.{op_of}
 use Rattle.mit_plan.specs.Meant.{fault_at, last_block, pair}
 use Rattle.mit_plan.specs.Paths.{IsPath}
 use Rattle.mit_plan.specs.Plans.{edge_at, op_at}
+use Rattle.mit_plan.specs.Standing.{Names}
 use Rattle.mit_machine.specs.Channels.{fate_of, is_send, is_target, made_places}
 use Rattle.mit_machine.specs.Offers.{bags_taken, can_poll_at, has_come, offered, all_parts, released_in, sent_in}
 use Rattle.mit_machine.specs.Places.{Reports, front, front_index, heard_by, is_done, known, makes, own_places}
@@ -29,7 +30,6 @@ use Rattle.mit_machine.proofs.KnownEnds.{PathStops, ended_there}
 use Rattle.mit_machine.proofs.Offering.{offers_bag, offers_block, offers_poll, offers_report}
 use Rattle.mit_machine.proofs.Places.{came_of, in_order, not_yet, place_found, place_is}
 use Rattle.mit_machine.proofs.Lists.{any_at, any_filter, any_found, front_all, more_there, range_found}
-use Rattle.mit_machine.proofs.Standing.{Names}
 use Rattle.mit_machine.proofs.WholePaths.{PartsExplained, explained_is, path_is}
 
 -- ---- routes
